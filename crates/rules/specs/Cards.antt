@@ -1,0 +1,95 @@
+-- Document 01, "Drill cards": the starred cards in one list, with one proof over it.
+use mathlib.Core.Bool.{Bool, true, false, not, _&&_, Bool·beq}
+use mathlib.Core.List.{List, [], _∷_, _++_}
+use mathlib.Core.Option.{Option, none, some}
+use Prim.Native.Nat.{ℕ}
+use Prim.Native.String.{String}
+use lib.Dec.{T, eqb}
+use Rattle.rules.specs.Letters.{telex, vni, characters}
+use Rattle.rules.specs.TakingApart.{verdict, admitted, someAgrees, listed, fits, fit, joins, initial, nucleus, final, leftovers}
+use Rattle.rules.specs.TonePlace.{tonePlace}
+use Rattle.rules.specs.TheWord.{Typed}
+use Rattle.rules.specs.Decision.{decision, keeps}
+use Rattle.rules.specs.CodePoints.{utf8, shown}
+use Rattle.rules.specs.WhatComesBack.{typed, commit, refusal, sameBytes}
+use Rattle.rules.specs.declared.Place.{Place}
+use Rattle.rules.specs.declared.Place.the-variants.{At, Nowhere}
+use Rattle.rules.specs.declared.Decision.{Decision}
+use Rattle.rules.specs.declared.Decision.the-variants.{Keep, Restore}
+
+-- a card: what is typed, and what document 01 says of it (none where it says nothing)
+pub record Card : Type 0 where
+  pub mode : ℕ
+  pub keys : String
+  pub text : String
+  pub back : String
+  pub verdictIs : Option ℕ
+  pub placeIs : Option ℕ
+  pub closedIs : Option Bool
+  pub decisionIs : Option Decision
+
+-- the UTF-8 bytes of a quoted text
+abbrev pub utf8Of : List ℕ → List ℕ
+utf8Of [] = []
+utf8Of (c ∷ cs) = utf8 c ++ utf8Of cs
+
+abbrev isPlace : Option ℕ → Place → Bool
+isPlace none p = true
+isPlace (some n) (At m) = eqb m n
+isPlace (some n) Nowhere = false
+
+abbrev isNumber : Option ℕ → ℕ → Bool
+isNumber none m = true
+isNumber (some n) m = eqb m n
+
+abbrev isMark : Option Bool → Bool → Bool
+isMark none c = true
+isMark (some b) c = Bool·beq b c
+
+abbrev isDecision : Option Decision → Decision → Bool
+isDecision none d = true
+isDecision (some Keep) Keep = true
+isDecision (some Keep) Restore = false
+isDecision (some Restore) Keep = false
+isDecision (some Restore) Restore = true
+
+abbrev told : Card → Typed → Bool
+told c z =
+    sameBytes (shown (z .state)) (utf8Of (characters (c .text))) &&
+    (sameBytes (commit (c .mode) (characters (c .keys)) (shown (z .state))) (utf8Of (characters (c .back))) &&
+    (isNumber (c .verdictIs) (verdict (z .state .letters) (z .state .tone)) &&
+    (isPlace (c .placeIs) (tonePlace (z .state .letters) (z .state .tone)) &&
+    (isMark (c .closedIs) (z .state .closed) &&
+    isDecision (c .decisionIs) (decision z)))))
+
+abbrev holds : Card → Bool
+holds c = told c (typed (c .mode) (characters (c .keys)))
+
+abbrev everyCard : List Card → Bool
+everyCard [] = true
+everyCard (c ∷ cs) = holds c && everyCard cs
+
+abbrev card : String → String → Option ℕ → Option ℕ → Option Bool → Option Decision → Card
+card keys text v p m d = record { mode = telex; keys = keys; text = text; back = text; verdictIs = v; placeIs = p; closedIs = m; decisionIs = d }
+
+abbrev starred : List Card
+starred =
+    card "" "" (some 1) none none (some Keep) ∷
+    card "vieejt" "việt" (some 0) (some 2) none (some Keep) ∷
+    card "hoas" "hóa" none (some 1) none none ∷
+    card "hoasn" "hoán" none (some 2) none none ∷
+    card "claus" "claus" (some 2) none none (some Keep) ∷
+    record { mode = telex; keys = "text"; text = "tẽt"; back = "text"; verdictIs = some 7; placeIs = some 1; closedIs = none; decisionIs = some Restore } ∷
+    card "tesst" "test" none none (some true) (some Keep) ∷
+    card "dod" "đo" none none none none ∷
+    card "nguoiwf" "người" none (some 3) none none ∷
+    card "quas" "quá" none (some 2) none none ∷
+    card "gias" "giá" none (some 2) none none ∷
+    card "aww" "aw" none none (some true) none ∷
+    card "carps" "cáp" none none none none ∷
+    record { mode = vni; keys = "d9uong72"; text = "đường"; back = "đường"; verdictIs = none; placeIs = some 2; closedIs = none; decisionIs = none } ∷
+    []
+
+pub starred-cards : T (everyCard starred)
+unfolding verdict admitted someAgrees listed fits fit joins initial nucleus final leftovers tonePlace keeps commit refusal
+starred-cards = tt

@@ -1,0 +1,11 @@
+pub mod Letters
+pub mod TheWord
+pub mod TakingApart
+pub mod TonePlace
+pub mod KeyRoles
+pub mod Decision
+pub mod CodePoints
+pub mod Speller
+pub mod WhatComesBack
+pub mod Drill
+pub mod Cards

@@ -1,0 +1,169 @@
+// The types of document 01: the word's record, the roles of keys, and the answer of each entry.
+// Every rule over them is a definition in specs/, one file for each section of the document.
+ghost use mathlib.Core.Path.{_≡_};
+ghost use Rattle.rules.specs.Letters.{telex, vni};
+ghost use Rattle.rules.specs.TheWord.{newWord};
+
+// A word: its mode, its letters, one tone for all of them, the closed mark, the keys typed and the counts of what they did.
+// A letter is one number: its base, 256 times its shape, and 2048 more for a capital.
+// Every field is public, so any record can be handed in; what is out of range is refused (refusal 8).
+pub struct Word {
+    pub mode: u8,
+    pub letters: [u16; 32],
+    pub count: u8,
+    pub tone: u8,
+    pub closed: bool,
+    pub keys: [u8; 32],
+    pub typed: u8,
+    pub acted: u8,
+    pub undone: u8,
+    pub appended: u8,
+}
+
+impl Word {
+    pub const KEYS: usize = 32;
+
+    pub const TEXT: usize = 96;
+
+    pub const TELEX: u8 = 0;
+
+    pub const VNI: u8 = 1;
+
+    // A new Telex word.
+    pub fn telex() -> Word
+        ensures { λ r. ⌜ r ≡ newWord telex ⌝ }
+    {
+        Word::empty(Word::TELEX)
+    }
+
+    // A new VNI word.
+    pub fn vni() -> Word
+        ensures { λ r. ⌜ r ≡ newWord vni ⌝ }
+    {
+        Word::empty(Word::VNI)
+    }
+
+    fn empty(mode: u8) -> Word
+        ensures { λ r. ⌜ r ≡ newWord mode ⌝ }
+    {
+        Word {
+            mode: mode,
+            letters: [0; 32],
+            count: 0,
+            tone: 0,
+            closed: false,
+            keys: [0; 32],
+            typed: 0,
+            acted: 0,
+            undone: 0,
+            appended: 0,
+        }
+    }
+}
+
+// What a key is for, in its mode. The three families: tone with clear, vowel shape, stroke.
+pub enum Role {
+    ToneRole(ToneKey),
+    ShapeRole(ShapeKey),
+    StrokeRole,
+    NoRole,
+}
+
+pub enum ToneKey {
+    SetTone(u8),
+    ClearTone,
+}
+
+// Telex's circumflex keys stand each for its own letter, VNI's for a, e and o; HornBreve is Telex's w.
+pub enum ShapeKey {
+    CircumflexOn(u8),
+    Circumflex,
+    Breve,
+    Horn,
+    HornBreve,
+}
+
+// What a key did: acted, and as what; undone; or appended.
+pub enum Outcome {
+    Acted(Act),
+    Undone,
+    Appended,
+}
+
+pub enum Act {
+    Tone(u8),
+    Shape(u8),
+    Stroke,
+    Clear,
+}
+
+pub enum Place {
+    At(usize),
+    Nowhere,
+}
+
+pub enum Decision {
+    Keep,
+    Restore,
+}
+
+// A refusal: its number in the table, and the number returned.
+pub struct Refusal {
+    pub number: u8,
+    pub value: usize,
+}
+
+pub enum StartAnswer {
+    Started,
+    Refused(Refusal),
+}
+
+pub struct Start {
+    pub answer: StartAnswer,
+    pub word: Word,
+}
+
+pub enum StepAnswer {
+    Did(Outcome),
+    Refused(Refusal),
+}
+
+pub struct Step {
+    pub answer: StepAnswer,
+    pub word: Word,
+}
+
+pub enum TypeAnswer {
+    Typed,
+    Refused(Refusal),
+}
+
+pub struct TypeAll {
+    pub answer: TypeAnswer,
+    pub word: Word,
+}
+
+pub enum WriteAnswer {
+    Wrote(usize),
+    Refused(Refusal),
+}
+
+pub enum PlaceAnswer {
+    Found(Place),
+    Refused(Refusal),
+}
+
+pub enum VerdictAnswer {
+    Judged(u8),
+    Refused(Refusal),
+}
+
+pub enum DecisionAnswer {
+    Decided(Decision),
+    Refused(Refusal),
+}
+
+pub enum CommitAnswer {
+    Granted,
+    Refused(Refusal),
+}

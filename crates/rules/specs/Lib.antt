@@ -9,3 +9,4 @@ pub mod Speller
 pub mod WhatComesBack
 pub mod Drill
 pub mod Cards
+pub mod AnswersInNumbers

@@ -59,36 +59,48 @@ allowedBefore mode [] = 0
 allowedBefore mode (k ∷ ks) = elim (isKey mode k) [ true ↦ suc (allowedBefore mode ks) | false ↦ 0 ]
 
 -- 8: a record out of range: a count over 32, more letters than keys, the three counts of kinds not adding up to the keys,
-abbrev pub countOver : Word → Bool
-countOver w =
-    any (ltb mostKeys (w .typed) ∷ ltb mostKeys (w .count) ∷ ltb mostKeys (w .acted) ∷ ltb mostKeys (w .undone) ∷ ltb mostKeys (w .appended) ∷ [])
+abbrev pub countsOver : Word → List Bool
+countsOver w = ltb mostKeys (w .typed) ∷ ltb mostKeys (w .count) ∷ ltb mostKeys (w .acted) ∷ ltb mostKeys (w .undone) ∷ ltb mostKeys (w .appended) ∷ []
 
 -- a kept key or letter that its mode does not allow (a number that is no letter's is such a letter),
+abbrev pub baseAllowed : ℕ → Letter → Bool
+baseAllowed mode x = isSmall (x .base) || (eqb mode vni && isDigit (x .base))
+
 abbrev pub letterAllowed : ℕ → ℕ → Bool
-letterAllowed mode n = eqb (number (letter n)) n && (isSmall (letter n .base) || (eqb mode vni && isDigit (letter n .base)))
+letterAllowed mode n = eqb (number (letter n)) n && baseAllowed mode (letter n)
 
 -- a shape its letter cannot carry,
-abbrev pub shapeCarried : ℕ → Bool
-shapeCarried n = carries (letter n .shape) (letter n .base)
+abbrev pub shapeCarried : Letter → Bool
+shapeCarried x = carries (x .shape) (x .base)
 
 -- a digit marked as a capital,
-abbrev pub noCapitalDigit : ℕ → Bool
-noCapitalDigit n = not (isDigit (letter n .base) && letter n .capital)
+abbrev pub capitalDigit : Letter → Bool
+capitalDigit x = isDigit (x .base) && x .capital
+
+-- each letter of a list of numbers
+abbrev pub allLetters : (Letter → Bool) → List ℕ → Bool
+allLetters f [] = true
+allLetters f (n ∷ ns) = f (letter n) && allLetters f ns
+
+abbrev pub noCapitalDigit : Letter → Bool
+noCapitalDigit x = not (capitalDigit x)
 
 -- a tone or mode number that does not exist.
-unfoldable pub outOfRange : Word → Bool
-outOfRange w =
-    any
-    (countOver w ∷
+abbrev pub faults : Word → List Bool
+faults w =
+    any (countsOver w) ∷
     ltb (w .typed) (w .count) ∷
     not (eqb (w .acted + w .undone + w .appended) (w .typed)) ∷
     not (all (isKey (w .mode)) (take (w .typed) (w .keys))) ∷
     not (all (letterAllowed (w .mode)) (take (w .count) (w .letters))) ∷
-    not (all shapeCarried (take (w .count) (w .letters))) ∷
-    not (all noCapitalDigit (take (w .count) (w .letters))) ∷
+    not (allLetters shapeCarried (take (w .count) (w .letters))) ∷
+    not (allLetters noCapitalDigit (take (w .count) (w .letters))) ∷
     ltb dot (w .tone) ∷
     not (isMode (w .mode)) ∷
-    [])
+    []
+
+unfoldable pub outOfRange : Word → Bool
+outOfRange w = any (faults w)
 
 -- What an entry is handed that a refusal can be about; none where it is handed no such thing, and then it cannot meet that refusal.
 -- Keys to be typed: in a mode, after so many that are typed already.

@@ -1,0 +1,35 @@
+-- Tests that hold: what follows from one of a list, from both, from a choice.
+use mathlib.Core.Path.{_≡_, refl, sym, ap₂, subst}
+use mathlib.Core.Bool.{Bool, true, false, not, _&&_, _||_}
+use mathlib.Core.List.{List, [], _∷_}
+use Prim.Native.Nat.{ℕ}
+use lib.Dec.{T, eqb, eqb→eq}
+use lib.Ieee.Fits.{and-l, and-r}
+use Rattle.rules.specs.Letters.{Letter, elem, is}
+use Rattle.rules.specs.WhatComesBack.{all}
+
+pub either : (p q : Bool) {P : Type 0} → (T p → P) → (T q → P) → T (p || q) → P
+either true q f g t = f tt
+either false q f g t = g t
+
+pub or-l : (p q : Bool) → T p → T (p || q)
+or-l true q t = tt
+or-l false q t = absurd t
+
+pub or-r : (p q : Bool) → T q → T (p || q)
+or-r true q t = tt
+or-r false q t = t
+
+-- a number that is one of a list passes what each of the list passes
+pub of-elem : (f : ℕ → Bool) (b : ℕ) (bs : List ℕ) → T (all f bs) → T (elem b bs) → T (f b)
+of-elem f b [] h t = absurd t
+of-elem f b (x ∷ []) h t = subst (λ (n : ℕ). T (f n)) (sym (eqb→eq b x t)) (and-l (f x) true h)
+of-elem f b (x ∷ y ∷ ys) h t =
+    either (eqb b x) (elem b (y ∷ ys))
+    (λ e. subst (λ (n : ℕ). T (f n)) (sym (eqb→eq b x e)) (and-l (f x) (all f (y ∷ ys)) h))
+    (of-elem f b (y ∷ ys) (and-r (f x) (all f (y ∷ ys)) h)) t
+
+-- the same letter but for the case
+pub is-letter : (x z : Letter) → T (is x z) → x ≡ record { base = z .base; shape = z .shape; capital = x .capital }
+is-letter x z t =
+    ap₂ (λ (b sh : ℕ). record { base = b; shape = sh; capital = x .capital }) (eqb→eq (x .base) (z .base) (search and-l)) (eqb→eq (x .shape) (z .shape) (search and-r))

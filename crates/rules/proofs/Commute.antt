@@ -18,7 +18,7 @@ use Rattle.rules.specs.declared.ShapeKey.{ShapeKey}
 use Rattle.rules.specs.declared.ShapeKey.the-variants.{CircumflexOn, Circumflex, Breve, Horn, HornBreve}
 use Rattle.rules.specs.declared.Act.{Act}
 use Rattle.rules.specs.declared.Act.the-variants.{Tone, Shape, Stroke, Clear}
-use Rattle.rules.proofs.Alike.{Good, good, good-shape, good-stroke, dee, is-d, d-admitted}
+use Rattle.rules.proofs.Edits.{Good, good, good-shape, good-stroke, dee, is-d, d-admitted}
 
 -- when a key acts, as what, and what the word is then
 pub data Acts : Role → State → Act → State → Type 0 where

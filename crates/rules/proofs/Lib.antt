@@ -1,8 +1,11 @@
+pub mod Apprentices
+pub mod Cards
 pub mod Tests
-pub mod Alike
+pub mod Edits
 pub mod Commute
 pub mod Orders
-pub mod Refused
 pub mod Numbers
 pub mod Range
+pub mod Refused
 pub mod StaysInRange
+pub mod One

@@ -12,7 +12,7 @@ use Rattle.rules.specs.TheWord.{letter, number}
 use Rattle.rules.specs.KeyRoles.{isSmall, isCapital, isDigit, isKey, lowerIf, letterOfKey}
 use Rattle.rules.specs.WhatComesBack.{all, allLetters, baseAllowed, letterAllowed, shapeCarried, noCapitalDigit}
 use Rattle.rules.proofs.Tests.{either, or-l, or-r}
-use Rattle.rules.proofs.Alike.{Alike, end, kept, moved}
+use Rattle.rules.proofs.Edits.{Alike, end, kept, moved}
 
 pub record Fine (mode : ℕ) (x : Letter) : Type 0 where
   pub allowed : T (baseAllowed mode x)
@@ -125,8 +125,8 @@ fine-key mode k t = go (isCapital k) refl
     go false e =
         record {
           allowed =
-          either (isSmall k) (isCapital k || (eqb mode vni && isDigit k)) (λ h. or-l (isSmall k) (eqb mode vni && isDigit k) h)
-          (either (isCapital k) (eqb mode vni && isDigit k) (λ h. absurd (subst T e h)) (λ h. or-r (isSmall k) (eqb mode vni && isDigit k) h)) t;
+              either (isSmall k) (isCapital k || (eqb mode vni && isDigit k)) (λ h. or-l (isSmall k) (eqb mode vni && isDigit k) h)
+              (either (isCapital k) (eqb mode vni && isDigit k) (λ h. absurd (subst T e h)) (λ h. or-r (isSmall k) (eqb mode vni && isDigit k) h)) t;
           carried = tt;
           digit = not-T (isDigit k && false) (λ d. and-r (isDigit k) false d);
         }

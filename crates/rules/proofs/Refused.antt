@@ -15,6 +15,14 @@ use Rattle.rules.specs.AnswersInNumbers.{Says, answered, refusing, start
 use Rattle.rules.specs.declared.Word.{Word}
 use Rattle.rules.specs.declared.Refusal.{Refusal}
 
+-- Order: 8, 1, 2 (keys before text), 3, 6, 7, 5, 4.
+abbrev numbersOf : List TableRow → List ℕ
+numbersOf [] = []
+numbersOf (r ∷ rs) = r .number ∷ numbersOf rs
+
+pub table-order : (c : Call) → numbersOf (table c) ≡ 8 ∷ 1 ∷ 2 ∷ 2 ∷ 3 ∷ 6 ∷ 7 ∷ 5 ∷ 4 ∷ []
+table-order c = refl
+
 -- a row whose condition holds, where no earlier one's does
 pub data First : List TableRow → TableRow → Type 0 where
   at-front : {r : TableRow} {rs : List TableRow} → T (r .when) → First (r ∷ rs) r
@@ -39,6 +47,7 @@ view (r ∷ rs) = go (r .when) refl (view rs)
     next : {o : Option Refusal} → T (not (r .when)) → View rs o → View (r ∷ rs) o
     next t (not-refused n) = not-refused (not-this t n)
     next t (refused-by f) = refused-by (further t f)
+
     go : (b : Bool) → r .when ≡ b → {o : Option Refusal} → View rs o → View (r ∷ rs) (elim b [ true ↦ some (refusalOf r) | false ↦ o ])
     go true e h = refused-by (at-front (subst T (sym e) tt))
     go false e h = next (subst (λ (b : Bool). T (not b)) (sym e) tt) h

@@ -1,17 +1,18 @@
--- Document 01, "Drill cards": the starred cards in one list, with one proof over it.
+-- Document 01, "Drill cards": the starred cards in one list, each with everything that the document says of it; and drill lines with their answers.
 use mathlib.Core.Bool.{Bool, true, false, not, _&&_, Bool·beq}
 use mathlib.Core.List.{List, [], _∷_, _++_}
 use mathlib.Core.Option.{Option, none, some}
 use Prim.Native.Nat.{ℕ}
 use Prim.Native.String.{String}
-use lib.Dec.{T, eqb}
+use lib.Dec.{eqb}
 use Rattle.rules.specs.Letters.{telex, vni, characters}
-use Rattle.rules.specs.TakingApart.{verdict, admitted, someAgrees, listed, fits, fit, joins, initial, nucleus, final, leftovers}
+use Rattle.rules.specs.TakingApart.{verdict}
 use Rattle.rules.specs.TonePlace.{tonePlace}
 use Rattle.rules.specs.TheWord.{Typed}
-use Rattle.rules.specs.Decision.{decision, keeps}
-use Rattle.rules.specs.CodePoints.{utf8, shown}
-use Rattle.rules.specs.WhatComesBack.{typed, commit, refusal, sameBytes}
+use Rattle.rules.specs.Decision.{decision}
+use Rattle.rules.specs.CodePoints.{utf8Of, shown}
+use Rattle.rules.specs.WhatComesBack.{typed, commit, sameBytes}
+use Rattle.rules.specs.Drill.{newline, answerLine}
 use Rattle.rules.specs.declared.Place.{Place}
 use Rattle.rules.specs.declared.Place.the-variants.{At, Nowhere}
 use Rattle.rules.specs.declared.Decision.{Decision}
@@ -27,11 +28,6 @@ pub record Card : Type 0 where
   pub placeIs : Option ℕ
   pub closedIs : Option Bool
   pub decisionIs : Option Decision
-
--- the UTF-8 bytes of a quoted text
-abbrev pub utf8Of : List ℕ → List ℕ
-utf8Of [] = []
-utf8Of (c ∷ cs) = utf8 c ++ utf8Of cs
 
 abbrev isPlace : Option ℕ → Place → Bool
 isPlace none p = true
@@ -65,14 +61,14 @@ told c z =
 abbrev holds : Card → Bool
 holds c = told c (typed (c .mode) (characters (c .keys)))
 
-abbrev everyCard : List Card → Bool
+abbrev pub everyCard : List Card → Bool
 everyCard [] = true
 everyCard (c ∷ cs) = holds c && everyCard cs
 
-abbrev card : String → String → Option ℕ → Option ℕ → Option Bool → Option Decision → Card
+abbrev pub card : String → String → Option ℕ → Option ℕ → Option Bool → Option Decision → Card
 card keys text v p m d = record { mode = telex; keys = keys; text = text; back = text; verdictIs = v; placeIs = p; closedIs = m; decisionIs = d }
 
-abbrev starred : List Card
+abbrev pub starred : List Card
 starred =
     card "" "" (some 1) none none (some Keep) ∷
     card "vieejt" "việt" (some 0) (some 2) none (some Keep) ∷
@@ -90,6 +86,30 @@ starred =
     record { mode = vni; keys = "d9uong72"; text = "đường"; back = "đường"; verdictIs = none; placeIs = some 2; closedIs = none; decisionIs = none } ∷
     []
 
-pub starred-cards : T (everyCard starred)
-unfolding verdict admitted someAgrees listed fits fit joins initial nucleus final leftovers tonePlace keeps commit refusal
-starred-cards = tt
+-- Drill lines and their answers: the whole case of "Drill program", and what is refused first where two refusals could be given.
+pub record Line : Type 0 where
+  pub line : String
+  pub answer : String
+
+abbrev answers : String → String → Line
+answers l a = record { line = l; answer = a }
+
+abbrev pub lines : List Line
+lines =
+    answers "T vieejt" "việt việt 0 5 2 K" ∷
+    answers "T text" "tẽt text 7 4 1 R" ∷
+    answers "V a11" "a1 a1 5 0 - K" ∷
+    answers "T a1" "! 3 1" ∷
+    answers "" "! 1 0" ∷
+    answers "t a" "! 1 0" ∷
+    answers "T " "- - 1 0 - K" ∷
+    answers "T aaaaaaaaaaaaaaaaaaaaaaaaaaaaaaaa1" "! 2 32" ∷
+    answers "V aaaaaaaaaaaaaaaaaaaaaaaaaaaaaaa!" "! 3 31" ∷
+    []
+
+abbrev answersSo : Line → Bool
+answersSo l = sameBytes (answerLine (characters (l .line))) (utf8Of (characters (l .answer)) ++ (newline ∷ []))
+
+abbrev pub everyLine : List Line → Bool
+everyLine [] = true
+everyLine (l ∷ ls) = answersSo l && everyLine ls

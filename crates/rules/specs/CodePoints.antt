@@ -69,6 +69,11 @@ utf8 c =
       ]
     ]
 
+-- the bytes of a quoted text, and of letters as shown
+abbrev pub utf8Of : List ℕ → List ℕ
+utf8Of [] = []
+utf8Of (c ∷ cs) = utf8 c ++ utf8Of cs
+
 abbrev pub bytes : List Sign → List ℕ
 bytes [] = []
 bytes (s ∷ ss) = utf8 (point s) ++ bytes ss

@@ -1,12 +1,13 @@
 pub mod Letters
+pub mod WhatComesBack
+pub mod AnswersInNumbers
 pub mod TheWord
+pub mod KeyRoles
 pub mod TakingApart
 pub mod TonePlace
-pub mod KeyRoles
 pub mod Decision
 pub mod CodePoints
 pub mod Speller
-pub mod WhatComesBack
 pub mod Drill
 pub mod Cards
-pub mod AnswersInNumbers
+pub mod Apprentices

@@ -1,0 +1,16 @@
+-- The starred drill cards hold, and drill lines have their answers: one computed proof over each list.
+use lib.Dec.{T}
+use Rattle.rules.specs.TakingApart.{verdict, admitted, someAgrees, listed, fits, fit, joins, initial, nucleus, final, leftovers}
+use Rattle.rules.specs.TonePlace.{tonePlace}
+use Rattle.rules.specs.Decision.{keeps}
+use Rattle.rules.specs.WhatComesBack.{commit, refusal}
+use Rattle.rules.specs.Drill.{answerLine}
+use Rattle.rules.specs.Cards.{starred, everyCard, lines, everyLine}
+
+pub starred-cards : T (everyCard starred)
+unfolding verdict admitted someAgrees listed fits fit joins initial nucleus final leftovers tonePlace keeps commit refusal
+starred-cards = tt
+
+pub drill-lines : T (everyLine lines)
+unfolding verdict admitted someAgrees listed fits fit joins initial nucleus final leftovers tonePlace keeps commit refusal answerLine
+drill-lines = tt

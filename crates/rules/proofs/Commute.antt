@@ -5,6 +5,7 @@ use mathlib.Core.List.{List, [], _∷_}
 use Prim.Native.Nat.{ℕ}
 use Prim.Native.Char.{code}
 use lib.Dec.{eqb, T}
+use lib.ListN.{length}
 use lib.Ieee.Fits.{and-i, and-l, and-r}
 use Rattle.rules.specs.Letters.{Letter, Letters, plain, circumflex, breve, horn, stroke, noTone, named, is, isNil}
 use Rattle.rules.specs.TakingApart.{admitted, final, fits}
@@ -18,7 +19,7 @@ use Rattle.rules.specs.declared.ShapeKey.{ShapeKey}
 use Rattle.rules.specs.declared.ShapeKey.the-variants.{CircumflexOn, Circumflex, Breve, Horn, HornBreve}
 use Rattle.rules.specs.declared.Act.{Act}
 use Rattle.rules.specs.declared.Act.the-variants.{Tone, Shape, Stroke, Clear}
-use Rattle.rules.proofs.Edits.{Good, good, good-shape, good-stroke, dee, is-d, d-admitted}
+use Rattle.rules.proofs.Edits.{length-alike, Good, good, good-shape, good-stroke, dee, is-d, d-admitted}
 
 -- when a key acts, as what, and what the word is then
 pub data Acts : Role → State → Act → State → Type 0 where
@@ -80,6 +81,16 @@ stays-open (by-tone t c f) = refl
 stays-open (by-clear c) = refl
 stays-open (by-shape h) = refl
 stays-open (by-stroke h) = refl
+
+-- and the number of letters
+good-length : {v w : Letters} {a : Act} → Good v (change a w) → length v ≡ length w
+good-length (good c r p h) = length-alike r
+
+pub keeps-length : {r : Role} {s t : State} {a : Act} → Acts r s a t → length (s .letters) ≡ length (t .letters)
+keeps-length (by-tone t c f) = refl
+keeps-length (by-clear c) = refl
+keeps-length (by-shape {s = s} {h = h} e) = good-length (subst (Good (s .letters)) e (good-shape h (s .letters)))
+keeps-length (by-stroke {s = s} e) = good-length (subst (Good (s .letters)) e (good-stroke (s .letters)))
 
 -- a tone goes on after an edit as before it
 good-tone : {v w : Letters} {a : Act} (t : ℕ) → Good v (change a w) → T (toneGoes t v) → T (toneGoes t w)

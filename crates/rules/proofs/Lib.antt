@@ -8,4 +8,6 @@ pub mod Numbers
 pub mod Range
 pub mod Refused
 pub mod StaysInRange
+pub mod Records
+pub mod RecordOrders
 pub mod One

@@ -51,11 +51,11 @@ pub not-not : (b : Bool) → T (not (not b)) → T b
 not-not true t = tt
 not-not false t = absurd t
 
-twice : (b : Bool) → T b → T (not (not b))
+pub twice : (b : Bool) → T b → T (not (not b))
 twice true t = tt
 twice false t = t
 
-not-over : (m n : ℕ) → n ≤ m → T (not (ltb m n))
+pub not-over : (m n : ℕ) → n ≤ m → T (not (ltb m n))
 not-over m n h = not-T (ltb m n) (λ t. omega (arith, ltb→lt m n t))
 
 said : (w : Word) → NoneOf (faults w) → NoneOf (countsOver w) → InRange w

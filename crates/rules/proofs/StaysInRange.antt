@@ -124,14 +124,14 @@ all-append f [] ys t u = u
 all-append f (x ∷ xs) ys t u = and-i (f x) (all f (xs ++ ys)) (and-l (f x) (all f xs) t) (all-append f xs ys (and-r (f x) (all f xs) t) u)
 
 -- the word that a record in range holds
-state-fine : (w : Word) → InRange w → StateFine (w .mode) (wordOf w .state)
+pub state-fine : (w : Word) → InRange w → StateFine (w .mode) (wordOf w .state)
 state-fine w r = record { letters = fine-letters (take (w .count) (w .letters)) (r .letters); tone = r .tone }
 
 length-front : (new old : List ℕ) → length new ≤ length old → length (atFront new old) ≡ length old
 length-front new old h = simp (length-append, length-drop) (omega arith)
 
 -- what stands in front is read again
-read-front : (new old : List ℕ) (n : ℕ) → length new ≡ n → take n (atFront new old) ≡ new
+pub read-front : (new old : List ℕ) (n : ℕ) → length new ≡ n → take n (atFront new old) ≡ new
 read-front new old n e = take-at new (drop (length new) old) n e
 
 abbrev after : Word → ℕ → Word
@@ -179,7 +179,7 @@ module _ (w : Word) (k : ℕ) (whole : Whole w) (r : InRange w) (room : w .typed
       }
 
 -- a step that is not refused finds room for the key, and the key allowed
-room-and-key : (w : Word) (k : ℕ) → NoneHolds (table (stepCall w k)) → (w .typed + 1 ≤ mostKeys) × T (isKey (w .mode) k)
+pub room-and-key : (w : Word) (k : ℕ) → NoneHolds (table (stepCall w k)) → (w .typed + 1 ≤ mostKeys) × T (isKey (w .mode) k)
 room-and-key w k (not-this range (not-this mode (not-this full (not-this text (not-this byte more))))) =
     (nltb→le mostKeys (w .typed + 1) full, and-l (isKey (w .mode) k) true (not-not (isKey (w .mode) k && true) byte))
 

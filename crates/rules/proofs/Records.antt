@@ -1,0 +1,63 @@
+-- A record that holds a word is read as that word; a step that is not refused holds the word with the key typed.
+use mathlib.Core.Path.{_≡_, refl, sym, ap, ap₂, subst, _∙_}
+use mathlib.Core.Bool.{Bool, true, false, not, _&&_}
+use mathlib.Core.List.{List, [], _∷_, _++_, map}
+use mathlib.Core.Option.{Option, none, some}
+use Prim.Native.Nat.{ℕ, _+_, _-_, _≤_}
+use native.Mathlib.Omega.{arith}
+use lib.Dec.{T}
+use lib.ListN.{length, take, drop, length-append, length-map, length-drop}
+use lib.Seq.{drop-append-add, drop-drop, take-at}
+use lib.Ieee.Fits.{and-i}
+use Rattle.rules.specs.Letters.{Letter, Letters}
+use Rattle.rules.specs.TheWord.{State, Typed, mostKeys, letter, number, wordOf, atFront, holding, outcomeOf}
+use Rattle.rules.specs.KeyRoles.{isKey, keyDoes, type}
+use Rattle.rules.specs.WhatComesBack.{outOfRange, table, refusal, stepCall, stepOr, step}
+use Rattle.rules.specs.declared.Word.{Word}
+use Rattle.rules.specs.declared.Step.{Step}
+use Rattle.rules.specs.declared.StepAnswer.the-variants.{Did}
+use Rattle.rules.proofs.Numbers.{AllFine, letters-numbers}
+use Rattle.rules.proofs.Refused.{NoneHolds, no-rows, not-this, refusal-none}
+use Rattle.rules.proofs.StaysInRange.{read-front}
+use Rattle.rules.proofs.Range.{not-over, twice}
+
+-- what a record holds is read back
+pub word-held : (w : Word) (z : Typed) → AllFine (z .mode) (z .state .letters) → wordOf (holding w z) ≡ z
+word-held w z f =
+    let ls : map letter (take (length (z .state .letters)) (atFront (map number (z .state .letters)) (w .letters))) ≡ z .state .letters =
+    ap (map letter) (read-front (map number (z .state .letters)) (w .letters) (length (z .state .letters)) (length-map (z .state .letters) number)) ∙ letters-numbers f in
+    let ks : take (length (z .keys)) (atFront (z .keys) (w .keys)) ≡ z .keys = read-front (z .keys) (w .keys) (length (z .keys)) refl in
+    λ i. record { mode = z .mode; state = record { letters = ls i; tone = z .state .tone; closed = z .state .closed }; keys = ks i; acted = z .acted; undone = z .undone; appended = z .appended }
+
+-- one held after another: what is longer in front covers what is shorter
+front-front : (new mid old : List ℕ) → length mid ≤ length new → atFront new (atFront mid old) ≡ atFront new old
+front-front new mid old h =
+    let d = length new - length mid in
+    let e : length new ≡ length mid + d = omega arith in
+    ap (_++_ new) (ap (λ (n : ℕ). drop n (atFront mid old)) e ∙ drop-append-add mid (drop (length mid) old) d ∙ drop-drop d (length mid) old ∙ ap (λ (n : ℕ). drop n old) (sym e))
+
+pub held-twice : (w : Word) (y z : Typed) → length (y .state .letters) ≤ length (z .state .letters) → length (y .keys) ≤ length (z .keys) → holding (holding w y) z ≡ holding w z
+held-twice w y z l k =
+    let ls = front-front (map number (z .state .letters)) (map number (y .state .letters)) (w .letters) (simp length-map l) in
+    let ks = front-front (z .keys) (y .keys) (w .keys) k in
+    λ i. record {
+      mode = z .mode;
+      letters = ls i;
+      count = length (z .state .letters);
+      tone = z .state .tone;
+      closed = z .state .closed;
+      keys = ks i;
+      typed = length (z .keys);
+      acted = z .acted;
+      undone = z .undone;
+      appended = z .appended;
+    }
+
+-- a step on a record in range, with room and an allowed key, is not refused
+pub accepted : (w : Word) (k : ℕ) → T (not (outOfRange w)) → w .typed + 1 ≤ mostKeys → T (isKey (w .mode) k) → step w k ≡ record { answer = Did (outcomeOf (keyDoes (wordOf w) k)); word = holding w (type (wordOf w) k) }
+unfolding step
+accepted w k range room key =
+    ap (λ o. stepOr o w k)
+    (refusal-none (stepCall w k) .1
+    (not-this range (not-this tt (not-this (not-over mostKeys (w .typed + 1) room) (not-this tt
+    (not-this (twice (isKey (w .mode) k && true) (and-i (isKey (w .mode) k) true key tt)) (not-this tt (not-this tt (not-this tt (not-this tt no-rows))))))))))

@@ -3,7 +3,8 @@ use lib.Dec.{T}
 use Rattle.rules.specs.TakingApart.{verdict, admitted, someAgrees, listed, fits, fit, joins, initial, nucleus, final, leftovers}
 use Rattle.rules.specs.TonePlace.{tonePlace}
 use Rattle.rules.specs.Decision.{keeps}
-use Rattle.rules.specs.WhatComesBack.{commit, refusal}
+use Rattle.rules.specs.Refusals.{refusal}
+use Rattle.rules.specs.WhatComesBack.{commit}
 use Rattle.rules.specs.Drill.{answerLine}
 use Rattle.rules.specs.Cards.{starred, everyCard, lines, everyLine}
 

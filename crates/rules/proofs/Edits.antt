@@ -1,19 +1,19 @@
 -- A shape or stroke key changes shapes alone, and to shapes that their letters can carry; where it acts it keeps the number of letters, the final, and a word admitted.
-use mathlib.Core.Path.{_≡_, refl, sym, ap, subst, _∙_}
+use mathlib.Core.Path.{_≡_, refl, sym, ap, subst}
 use mathlib.Core.Bool.{Bool, true, false, not, _&&_, _||_}
-use mathlib.Core.List.{List, [], _∷_}
+use mathlib.Core.List.{[], _∷_}
 use Prim.Native.Nat.{ℕ, suc}
 use Prim.Native.Char.{code}
 use lib.Dec.{eqb, T}
 use lib.ListN.{length}
 use lib.Ieee.Fits.{and-l, and-r}
-use Rattle.rules.specs.Letters.{Letter, Letters, plain, circumflex, breve, horn, stroke, characters, elem, among, named, is, isNil, carries}
+use Rattle.rules.specs.Letters.{Letter, Letters, plain, circumflex, breve, horn, stroke, characters, among, named, is, isNil, carries}
 use Rattle.rules.specs.TakingApart.{vowel, isKind, frontIf, front, pastIf, past, final, initial, nucleus, leftovers, joins, fit, someAgrees, admitted}
 use Rattle.rules.specs.KeyRoles.{shaped, Found, nowhere, already, fresh, behind, orElse, ifSo, target, here, last, own, circumflexOn, isAEO, circumflexed, isA, breved, isQ, pairHere, pair, single, horned, Edit, nothing, off, change, onlyIf, asked, first, shapeEdit, strokeEdit}
 use Rattle.rules.specs.declared.ShapeKey.{ShapeKey}
 use Rattle.rules.specs.declared.ShapeKey.the-variants.{CircumflexOn, Circumflex, Breve, Horn, HornBreve}
 use Rattle.rules.specs.declared.Act.{Act}
-use Rattle.rules.specs.declared.Act.the-variants.{Shape, Stroke}
+use Rattle.rules.specs.declared.Act.the-variants.{Stroke}
 use Rattle.rules.proofs.Tests.{of-elem, is-letter}
 
 -- the same letters, but for the shape of some whose base passes a test

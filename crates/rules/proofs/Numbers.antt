@@ -1,6 +1,6 @@
 -- Letters that a word of a mode can hold: their numbers give them back, a record's letters in range are such letters, and a key leaves them such letters.
 use mathlib.Core.Path.{_≡_, refl, sym, ap, ap₂, subst, _∙_}
-use mathlib.Core.Bool.{Bool, true, false, not, _&&_, _||_}
+use mathlib.Core.Bool.{Bool, true, false, _&&_, _||_}
 use mathlib.Core.List.{List, [], _∷_, _++_, map}
 use Prim.Native.Nat.{ℕ, _+_, _*_, _/_, _%_, _≤_, _<_}
 use Prim.Native.Char.{code}
@@ -10,7 +10,7 @@ use lib.Ieee.Fits.{and-i, and-l, and-r}
 use Rattle.rules.specs.Letters.{Letter, Letters, plain, circumflex, breve, horn, stroke, vni, among, carries}
 use Rattle.rules.specs.TheWord.{letter, number}
 use Rattle.rules.specs.KeyRoles.{isSmall, isCapital, isDigit, isKey, lowerIf, letterOfKey}
-use Rattle.rules.specs.WhatComesBack.{all, allLetters, baseAllowed, letterAllowed, shapeCarried, noCapitalDigit}
+use Rattle.rules.specs.Refusals.{all, allLetters, baseAllowed, letterAllowed, shapeCarried, noCapitalDigit}
 use Rattle.rules.proofs.Tests.{either, or-l, or-r}
 use Rattle.rules.proofs.Edits.{Alike, end, kept, moved}
 

@@ -10,7 +10,7 @@ use lib.Ieee.Fits.{eq→eqb}
 use Rattle.rules.specs.Letters.{dot}
 use Rattle.rules.specs.TheWord.{mostKeys}
 use Rattle.rules.specs.KeyRoles.{isKey}
-use Rattle.rules.specs.WhatComesBack.{all, any, allLetters, isMode, countsOver, letterAllowed, shapeCarried, noCapitalDigit, faults, outOfRange}
+use Rattle.rules.specs.Refusals.{all, any, allLetters, isMode, countsOver, letterAllowed, shapeCarried, noCapitalDigit, rangeFaults, outOfRange}
 use Rattle.rules.specs.declared.Word.{Word}
 use Rattle.rules.proofs.Numbers.{NumbersInRange}
 
@@ -58,7 +58,7 @@ twice false t = t
 pub not-over : (m n : ℕ) → n ≤ m → T (not (ltb m n))
 not-over m n h = not-T (ltb m n) (λ t. omega (arith, ltb→lt m n t))
 
-said : (w : Word) → NoneOf (faults w) → NoneOf (countsOver w) → InRange w
+said : (w : Word) → NoneOf (rangeFaults w) → NoneOf (countsOver w) → InRange w
 said w (not-this over (not-this fewer (not-this sum (not-this keys (not-this allowed (not-this carried (not-this digit (not-this tone (not-this mode none-left)))))))))
     (not-this t (not-this c (not-this a (not-this u (not-this p none-left))))) =
     record {
@@ -75,12 +75,12 @@ said w (not-this over (not-this fewer (not-this sum (not-this keys (not-this all
       mode = search not-not;
     }
 
-counted : (w : Word) → NoneOf (faults w) → T (not (any (countsOver w)))
+counted : (w : Word) → NoneOf (rangeFaults w) → T (not (any (countsOver w)))
 counted w (not-this over n) = over
 
 pub in-range : (w : Word) → T (not (outOfRange w)) → InRange w
 unfolding outOfRange
-in-range w t = said w (none-of (faults w) t) (none-of (countsOver w) (counted w (none-of (faults w) t)))
+in-range w t = said w (none-of (rangeFaults w) t) (none-of (countsOver w) (counted w (none-of (rangeFaults w) t)))
 
 pub range-in : (w : Word) → InRange w → T (not (outOfRange w))
 unfolding outOfRange
@@ -91,7 +91,7 @@ range-in w r =
     (not-this (not-over mostKeys (w .acted) (r .acted))
     (not-this (not-over mostKeys (w .undone) (r .undone))
     (not-this (not-over mostKeys (w .appended) (r .appended)) none-left)))) in
-    let none : NoneOf (faults w) =
+    let none : NoneOf (rangeFaults w) =
     not-this (not-any counts)
     (not-this (not-over (w .typed) (w .count) (r .fewer))
     (not-this (twice (eqb (w .acted + w .undone + w .appended) (w .typed)) (eq→eqb (r .sum)))

@@ -10,7 +10,8 @@ use lib.ListN.{length, take, length-append}
 use lib.Seq.{length-take-le}
 use Rattle.rules.specs.TheWord.{State, Typed, Done, acted, undone, appended, stateOf, outcomeOf, mostKeys, wordOf, atFront, holding}
 use Rattle.rules.specs.KeyRoles.{isKey, role, letterOfKey, unlessClosed, keyDoes, type}
-use Rattle.rules.specs.WhatComesBack.{outOfRange, table, refusal, stepCall, stepOr, step, show, placeAnswer, verdictAnswer, decisionAnswer}
+use Rattle.rules.specs.Refusals.{outOfRange, refusal}
+use Rattle.rules.specs.WhatComesBack.{stepCall, stepOr, step}
 use Rattle.rules.specs.declared.Word.{Word}
 use Rattle.rules.specs.declared.Act.{Act}
 use Rattle.rules.specs.declared.Refusal.{Refusal}
@@ -18,10 +19,10 @@ use Rattle.rules.specs.declared.Outcome.the-variants.{Acted}
 use Rattle.rules.specs.declared.Step.{Step}
 use Rattle.rules.specs.declared.StepAnswer.the-variants.{Did}
 use Rattle.rules.proofs.Commute.{Differ, acts, keeps-length}
-use Rattle.rules.proofs.Orders.{withKeys, BothOrders, orders}
-use Rattle.rules.proofs.Range.{InRange, in-range}
+use Rattle.rules.proofs.Orders.{withKeys, orders}
+use Rattle.rules.proofs.Range.{in-range}
 use Rattle.rules.proofs.Refused.{refusal-none}
-use Rattle.rules.proofs.StaysInRange.{Whole, Next, state-fine, next, room-and-key, step-in-range}
+use Rattle.rules.proofs.StaysInRange.{Whole, state-fine, next, room-and-key, step-in-range}
 use Rattle.rules.proofs.Records.{word-held, held-twice, accepted}
 
 -- the record with other keys in its array

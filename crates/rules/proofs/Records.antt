@@ -1,23 +1,21 @@
 -- A record that holds a word is read as that word; a step that is not refused holds the word with the key typed.
-use mathlib.Core.Path.{_≡_, refl, sym, ap, ap₂, subst, _∙_}
-use mathlib.Core.Bool.{Bool, true, false, not, _&&_}
-use mathlib.Core.List.{List, [], _∷_, _++_, map}
-use mathlib.Core.Option.{Option, none, some}
+use mathlib.Core.Path.{_≡_, refl, sym, ap, _∙_}
+use mathlib.Core.Bool.{true, not, _&&_}
+use mathlib.Core.List.{List, _++_, map}
 use Prim.Native.Nat.{ℕ, _+_, _-_, _≤_}
 use native.Mathlib.Omega.{arith}
 use lib.Dec.{T}
-use lib.ListN.{length, take, drop, length-append, length-map, length-drop}
-use lib.Seq.{drop-append-add, drop-drop, take-at}
+use lib.ListN.{length, take, drop, length-map}
+use lib.Seq.{drop-append-add, drop-drop}
 use lib.Ieee.Fits.{and-i}
-use Rattle.rules.specs.Letters.{Letter, Letters}
-use Rattle.rules.specs.TheWord.{State, Typed, mostKeys, letter, number, wordOf, atFront, holding, outcomeOf}
+use Rattle.rules.specs.TheWord.{Typed, mostKeys, letter, number, wordOf, atFront, holding, outcomeOf}
 use Rattle.rules.specs.KeyRoles.{isKey, keyDoes, type}
-use Rattle.rules.specs.WhatComesBack.{outOfRange, table, refusal, stepCall, stepOr, step}
+use Rattle.rules.specs.Refusals.{outOfRange}
+use Rattle.rules.specs.WhatComesBack.{stepCall, stepOr, step}
 use Rattle.rules.specs.declared.Word.{Word}
-use Rattle.rules.specs.declared.Step.{Step}
 use Rattle.rules.specs.declared.StepAnswer.the-variants.{Did}
 use Rattle.rules.proofs.Numbers.{AllFine, letters-numbers}
-use Rattle.rules.proofs.Refused.{NoneHolds, no-rows, not-this, refusal-none}
+use Rattle.rules.proofs.Refused.{no-rows, not-this, refusal-none}
 use Rattle.rules.proofs.StaysInRange.{read-front}
 use Rattle.rules.proofs.Range.{not-over, twice}
 

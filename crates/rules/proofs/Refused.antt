@@ -9,7 +9,8 @@ use native.Mathlib.Omega.{arith}
 use lib.Dec.{T}
 use Rattle.rules.specs.Letters.{telex}
 use Rattle.rules.specs.TheWord.{newWord}
-use Rattle.rules.specs.WhatComesBack.{Call, TableRow, table, firstRow, refusal, startCall, startOr, start, stepCall, stepOr, step, typeCall, typeOr, typeAll, writeOr, showCall, show, wordCall, placeOr, placeAnswer, verdictOr, verdictAnswer, decisionOr, decisionAnswer, commitCall, commitOr, commit, grantedOr, commitAnswer, spellCall, spell}
+use Rattle.rules.specs.Refusals.{Call, TableRow, table, firstRow, refusal}
+use Rattle.rules.specs.WhatComesBack.{startCall, startOr, start, stepCall, stepOr, step, typeCall, typeOr, typeAll, writeOr, showCall, show, wordCall, placeOr, placeAnswer, verdictOr, verdictAnswer, decisionOr, decisionAnswer, commitCall, commitOr, commit, grantedOr, commitAnswer, spellCall, spell}
 use Rattle.rules.specs.Drill.{drillCall, drillLine}
 use Rattle.rules.specs.AnswersInNumbers.{Says, answered, refusing, startSays, stepSays, typeSays, writeSays, placeSays, verdictSays, decisionSays, commitSays}
 use Rattle.rules.specs.declared.Word.{Word}

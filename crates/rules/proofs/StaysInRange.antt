@@ -5,14 +5,15 @@ use mathlib.Core.List.{List, [], _∷_, _++_, map}
 use mathlib.Core.Option.{Option, none, some}
 use Prim.Native.Nat.{ℕ, _+_, _≤_}
 use native.Mathlib.Omega.{arith}
-use lib.Dec.{T, eqb, leb, leb→le, ltb, nltb→le, lit≤}
+use lib.Dec.{T, eqb, leb, leb→le, nltb→le, lit≤}
 use lib.ListN.{length, take, drop, length-append, length-map, length-take, length-drop}
 use lib.Seq.{take-at, length-take-le}
 use lib.Ieee.Fits.{and-i, and-l, and-r}
-use Rattle.rules.specs.Letters.{Letter, Letters, noTone, dot, telex, vni}
+use Rattle.rules.specs.Letters.{Letter, noTone, dot, telex, vni}
 use Rattle.rules.specs.TheWord.{State, Typed, Done, acted, undone, appended, stateOf, outcomeOf, isActed, isUndone, isAppended, oneMore, counted, mostKeys, letter, number, wordOf, atFront, holding}
-use Rattle.rules.specs.KeyRoles.{isKey, letterOfKey, lower, roleIn, telexRoles, vniRoles, role, append, undo, withLetters, withTone, undoIf, actIf, toneGoes, Edit, nothing, off, change, shapeEdit, strokeEdit, editDoes, toneDoes, roleDoes, unlessClosed, keyDoes}
-use Rattle.rules.specs.WhatComesBack.{all, outOfRange, table, refusal, stepCall, stepOr, step}
+use Rattle.rules.specs.KeyRoles.{isKey, letterOfKey, lower, roleIn, telexRoles, vniRoles, role, append, undo, withLetters, withTone, undoIf, actIf, toneGoes, Edit, editDoes, roleDoes, unlessClosed, keyDoes}
+use Rattle.rules.specs.Refusals.{all, outOfRange, table, refusal}
+use Rattle.rules.specs.WhatComesBack.{stepCall, stepOr, step}
 use Rattle.rules.specs.declared.Word.{Word}
 use Rattle.rules.specs.declared.Outcome.{Outcome}
 use Rattle.rules.specs.declared.Outcome.the-variants.{Acted, Undone, Appended}
@@ -20,7 +21,6 @@ use Rattle.rules.specs.declared.Refusal.{Refusal}
 use Rattle.rules.specs.declared.Act.{Act}
 use Rattle.rules.specs.declared.Role.{Role}
 use Rattle.rules.specs.declared.Role.the-variants.{ToneRole, ShapeRole, StrokeRole, NoRole}
-use Rattle.rules.specs.declared.ToneKey.{ToneKey}
 use Rattle.rules.specs.declared.ToneKey.the-variants.{SetTone, ClearTone}
 use Rattle.rules.proofs.Edits.{Good, good-none, good-off, good, good-shape, good-stroke, length-alike}
 use Rattle.rules.proofs.Numbers.{Fine, AllFine, NumbersInRange, numbers-in-range, fine-letters, fine-alike, fine-append, fine-key}

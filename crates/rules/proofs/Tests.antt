@@ -1,12 +1,12 @@
 -- Tests that hold: what follows from one of a list, from both, from a choice.
-use mathlib.Core.Path.{_≡_, refl, sym, ap₂, subst}
-use mathlib.Core.Bool.{Bool, true, false, not, _&&_, _||_}
+use mathlib.Core.Path.{_≡_, sym, ap₂, subst}
+use mathlib.Core.Bool.{Bool, true, false, _||_}
 use mathlib.Core.List.{List, [], _∷_}
 use Prim.Native.Nat.{ℕ}
 use lib.Dec.{T, eqb, eqb→eq}
 use lib.Ieee.Fits.{and-l, and-r}
 use Rattle.rules.specs.Letters.{Letter, elem, is}
-use Rattle.rules.specs.WhatComesBack.{all}
+use Rattle.rules.specs.Refusals.{all}
 
 pub either : (p q : Bool) {P : Type 0} → (T p → P) → (T q → P) → T (p || q) → P
 either true q f g t = f tt

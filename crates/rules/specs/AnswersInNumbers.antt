@@ -1,7 +1,6 @@
 -- Each answer in document 01's numbers: a refusal's number with the number returned, or the values that the answer holds.
 use mathlib.Core.List.{List, [], _∷_}
 use Prim.Native.Nat.{ℕ}
-use Rattle.rules.specs.declared.Act.{Act}
 use Rattle.rules.specs.declared.Act.the-variants.{Tone, Shape, Stroke, Clear}
 use Rattle.rules.specs.declared.Outcome.{Outcome}
 use Rattle.rules.specs.declared.Outcome.the-variants.{Acted, Undone, Appended}

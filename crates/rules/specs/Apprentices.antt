@@ -1,6 +1,6 @@
 -- Document 01, "What apprentices write that is wrong": what the rules give in each of these places.
 use mathlib.Core.List.{List, [], _∷_}
-use mathlib.Core.Option.{Option, none, some}
+use mathlib.Core.Option.{none, some}
 use Rattle.rules.specs.Letters.{telex}
 use Rattle.rules.specs.Cards.{Card, card}
 use Rattle.rules.specs.declared.Decision.the-variants.{Keep, Restore}

@@ -1,5 +1,5 @@
 -- Document 01, "Drill cards": the starred cards in one list, each with everything that the document says of it; and drill lines with their answers.
-use mathlib.Core.Bool.{Bool, true, false, not, _&&_, Bool·beq}
+use mathlib.Core.Bool.{Bool, true, false, _&&_, Bool·beq}
 use mathlib.Core.List.{List, [], _∷_, _++_}
 use mathlib.Core.Option.{Option, none, some}
 use Prim.Native.Nat.{ℕ}
@@ -11,7 +11,8 @@ use Rattle.rules.specs.TonePlace.{tonePlace}
 use Rattle.rules.specs.TheWord.{Typed}
 use Rattle.rules.specs.Decision.{decision}
 use Rattle.rules.specs.CodePoints.{utf8Of, shown}
-use Rattle.rules.specs.WhatComesBack.{typed, commit, sameBytes}
+use Rattle.rules.specs.Refusals.{sameBytes}
+use Rattle.rules.specs.WhatComesBack.{typed, commit}
 use Rattle.rules.specs.Drill.{newline, answerLine}
 use Rattle.rules.specs.declared.Place.{Place}
 use Rattle.rules.specs.declared.Place.the-variants.{At, Nowhere}

@@ -1,11 +1,11 @@
 -- Document 01, "Code points": the letters of the alphabet as shown, their UTF-8 bytes, and the text that a word shows.
-use mathlib.Core.Bool.{Bool, true, false, not, _&&_, _||_}
+use mathlib.Core.Bool.{Bool, true, false}
 use mathlib.Core.List.{List, [], _∷_, _++_}
-use Prim.Native.Nat.{ℕ, zero, suc, _+_, _-_, _*_, _/_, _%_}
+use Prim.Native.Nat.{ℕ, zero, suc, _+_, _-_, _/_, _%_}
 use Prim.Native.Char.{code}
-use lib.Dec.{eqb, ltb}
+use lib.Dec.{ltb}
 use lib.ListN.{getD}
-use Rattle.rules.specs.Letters.{Letter, Letters, plain, stroke, noTone, small, named, characters, is}
+use Rattle.rules.specs.Letters.{Letter, Letters, noTone, named, characters, is}
 use Rattle.rules.specs.TonePlace.{tonePlace}
 use Rattle.rules.specs.TheWord.{State}
 use Rattle.rules.specs.declared.Place.{Place}

@@ -1,19 +1,19 @@
 -- Document 01, "Drill program": one line and its answer, and a whole run.
-use mathlib.Core.Bool.{Bool, true, false, not, _&&_}
+use mathlib.Core.Bool.{Bool, true, false}
 use mathlib.Core.List.{List, [], _∷_, _++_}
 use mathlib.Core.Option.{Option, none, some}
 use Prim.Native.Nat.{ℕ, _+_, _/_, _%_}
 use Prim.Native.Char.{code}
-use Prim.Native.String.{String}
 use lib.Dec.{eqb, ltb}
 use lib.ListN.{length}
 use Rattle.rules.specs.Letters.{telex, vni, characters}
 use Rattle.rules.specs.TakingApart.{verdict}
 use Rattle.rules.specs.TonePlace.{tonePlace}
-use Rattle.rules.specs.TheWord.{Typed, State}
+use Rattle.rules.specs.TheWord.{Typed}
 use Rattle.rules.specs.Decision.{decision, handedBack}
 use Rattle.rules.specs.CodePoints.{shown}
-use Rattle.rules.specs.WhatComesBack.{Call, refusal, typeCall, typed, Written, writeOr}
+use Rattle.rules.specs.Refusals.{Call, refusal}
+use Rattle.rules.specs.WhatComesBack.{typeCall, typed, Written, writeOr}
 use Rattle.rules.specs.declared.Refusal.{Refusal}
 use Rattle.rules.specs.declared.Place.{Place}
 use Rattle.rules.specs.declared.Place.the-variants.{At, Nowhere}

@@ -1,4 +1,5 @@
 pub mod Letters
+pub mod Refusals
 pub mod WhatComesBack
 pub mod AnswersInNumbers
 pub mod TheWord

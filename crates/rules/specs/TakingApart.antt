@@ -5,7 +5,7 @@ use Prim.Native.Nat.{ℕ}
 use Prim.Native.Char.{code}
 use Prim.Native.String.{String}
 use lib.Dec.{eqb}
-use Rattle.rules.specs.Letters.{Letter, Letters, plain, acute, dot, elem, among, word, words, is, same, some, oneOf, isNil, firstBase}
+use Rattle.rules.specs.Letters.{Letter, Letters, plain, acute, dot, elem, among, word, words, same, some, oneOf, isNil, firstBase}
 
 -- Vowel letters: a e i o u y in any shape.
 abbrev pub vowel : ℕ → Bool
@@ -84,7 +84,7 @@ leftovers w = past false (past true (past false w))
 abbrev pub initials : List Letters
 initials = [] ∷ words "b c d đ g h k l m n p r s t v x ch gh gi kh ng nh ph qu th tr ngh"
 
--- Fit, by base vowel.
+-- Fit, by base vowel: c and ng not before e i y; g not before e y; k only before e i y; gh and ngh only before e i; gi not before i y; qu not before u.
 abbrev pub implies : Bool → Bool → Bool
 implies p q = not p || q
 

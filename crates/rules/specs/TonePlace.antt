@@ -1,11 +1,11 @@
 -- Document 01, "Where the tone is shown".
 use mathlib.Core.Bool.{Bool, true, false, not, _&&_, _||_}
-use mathlib.Core.List.{List, [], _∷_}
+use mathlib.Core.List.{[], _∷_}
 use mathlib.Core.Option.{Option, none, some}
 use Prim.Native.Nat.{ℕ, suc, _+_}
 use lib.Dec.{eqb}
 use lib.ListN.{length}
-use Rattle.rules.specs.Letters.{Letter, Letters, plain, noTone, isNil}
+use Rattle.rules.specs.Letters.{Letters, plain, noTone, isNil}
 use Rattle.rules.specs.TakingApart.{initial, nucleus, final, leftovers}
 use Rattle.rules.specs.declared.Place.{Place}
 use Rattle.rules.specs.declared.Place.the-variants.{At, Nowhere}

@@ -44,7 +44,7 @@ shape-below sh b =
 letter-path : (x : Letter) (n c : ℕ) → n % 256 ≡ x .base → n / 256 % 8 ≡ x .shape → n / 2048 % 2 ≡ c → eqb c 1 ≡ x .capital → letter n ≡ x
 letter-path x n c p q r e = λ i. record { base = p i; shape = q i; capital = (ap (λ (m : ℕ). eqb m 1) r ∙ e) i }
 
-of-number : (b sh : ℕ) (c : Bool) → b < 256 → sh < 8 → letter (number (record { base = b; shape = sh; capital = c })) ≡ record { base = b; shape = sh; capital = c }
+pub of-number : (b sh : ℕ) (c : Bool) → b < 256 → sh < 8 → letter (number (record { base = b; shape = sh; capital = c })) ≡ record { base = b; shape = sh; capital = c }
 of-number b sh true hb hs = letter-path (record { base = b; shape = sh; capital = true }) (b + 256 * sh + 2048) 1 (omega arith) (omega arith) (omega arith) refl
 of-number b sh false hb hs = letter-path (record { base = b; shape = sh; capital = false }) (b + 256 * sh + 0) 0 (omega arith) (omega arith) (omega arith) refl
 

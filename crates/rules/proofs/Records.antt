@@ -28,7 +28,7 @@ word-held w z f =
     λ i. record { mode = z .mode; state = record { letters = ls i; tone = z .state .tone; closed = z .state .closed }; keys = ks i; acted = z .acted; undone = z .undone; appended = z .appended }
 
 -- one held after another: what is longer in front covers what is shorter
-front-front : (new mid old : List ℕ) → length mid ≤ length new → atFront new (atFront mid old) ≡ atFront new old
+pub front-front : (new mid old : List ℕ) → length mid ≤ length new → atFront new (atFront mid old) ≡ atFront new old
 front-front new mid old h =
     let d = length new - length mid in
     let e : length new ≡ length mid + d = omega arith in

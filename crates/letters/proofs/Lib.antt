@@ -1,0 +1,13 @@
+pub mod Bools
+pub mod Arms
+pub mod Tables
+pub mod Roles
+pub mod Points
+pub mod Writes
+pub mod Finds
+pub mod Decodes
+pub mod Fronts
+pub mod Stands
+pub mod Agrees
+pub mod BackAndForth
+pub mod One

@@ -1,0 +1,18 @@
+-- `letters::role` meets its contract: the mode picks the table.
+use mathlib.Core.Path.{_∙_, ap}
+use borrow.Author.Needs.{needs}
+use Rattle.rules.specs.KeyRoles.{roleIn, telexRoles, vniRoles}
+use Rattle.letters.proofs.Roles.{no-mode}
+use Rattle.letters.proofs.role.Statement.{statement}
+use Rattle.letters.proofs.role.Tie as tie
+
+pub role-spec : {M : Type 1} → statement M
+role-spec =
+    tie.close (tie.spec
+    (λ c κs. search needs)
+    (λ c κs. search needs)
+    (λ c κs. search needs)
+    (λ c κs. search needs)
+    (λ c. rw (c .before .before .match .keys1) (c .telex-role .ensures ∙ ap (roleIn telexRoles) (c .before .lower .ensures)))
+    (λ c. rw (c .before .before .match .keys2) (c .vni-role .ensures ∙ ap (roleIn vniRoles) (c .before .lower2 .ensures)))
+    (λ c. no-mode (c .before .args .mode) (c .before .args .key) (c .match .rest .0 .1) (c .match .rest .1)))

@@ -1,0 +1,322 @@
+// The alphabet in code: which shape a base carries, the role of a key, the bytes of a letter, and the letter that stands at a place of a text.
+ghost use mathlib.Core.Path.{_≡_};
+ghost use Prim.Native.Nat.{_<_, _≤_};
+ghost use Rattle.rules.specs.Letters.{carries as carriesShape};
+ghost use Rattle.rules.specs.TheWord.{letter as letterOfNumber, number};
+ghost use Rattle.rules.specs.KeyRoles.{isSmall, isCapital, isDigit, isKey, lower as lowerOf, letterOfKey, roleIn, telexRoles, vniRoles, role as roleOf};
+ghost use Rattle.rules.specs.CodePoints.{capitalPoint, inCase, utf8 as utf8Of};
+ghost use Rattle.letters.specs.Decoding.{followsOn, oneByte, InTwo, pointOfTwo, twoBytes, InThree, pointOfThree, threeBytes, readAs};
+ghost use Rattle.letters.specs.Reading.{readAt};
+ghost use Rattle.letters.specs.Writing.{isLetter, bytesOf, written};
+
+mod vowels;
+
+use rules::Role;
+use rules::ShapeKey;
+use rules::ToneKey;
+use rules::Word;
+
+// The UTF-8 bytes of a letter.
+pub enum LetterBytes {
+    One(u8),
+    Two(u8, u8),
+    Three(u8, u8, u8),
+    NoLetter,
+}
+
+// A letter that starts at a place of a text: its number, the tone on it, and its length in bytes.
+pub enum LetterRead {
+    Letter {
+        number: u16,
+        tone: u8,
+        length: usize,
+    },
+    NoLetter,
+}
+
+// A letter is one number: its base, 256 times its shape, and 2048 more for a capital.
+const CAPITAL: u16 = 2048;
+
+const PLAIN: u8 = 0;
+
+const CIRCUMFLEX: u8 = 1;
+
+const BREVE: u8 = 2;
+
+const HORN: u8 = 3;
+
+const STROKE: u8 = 4;
+
+// đ: its number as a letter, and its code points.
+const D_STROKE: u16 = b'd' as u16 + 256 * STROKE as u16;
+
+const D_STROKE_POINT: u16 = 0x111;
+
+const CAPITAL_D_STROKE_POINT: u16 = D_STROKE_POINT - 1;
+
+const ACUTE: u8 = 1;
+
+const GRAVE: u8 = 2;
+
+const HOOK: u8 = 3;
+
+const TILDE: u8 = 4;
+
+const DOT: u8 = 5;
+
+// Shapes that a letter can carry: circumflex on a e o, breve on a, horn on o u, stroke on d; every letter is plain.
+pub fn carries(shape: u8, base: u8) -> bool
+    ensures { λ r. ⌜ r ≡ carriesShape shape base ⌝ }
+{
+    (shape == PLAIN)
+        | (((shape == CIRCUMFLEX) & ((base == b'a') | ((base == b'e') | (base == b'o'))))
+            | (((shape == BREVE) & (base == b'a'))
+                | (((shape == HORN) & ((base == b'o') | (base == b'u')))
+                    | ((shape == STROKE) & (base == b'd')))))
+}
+
+fn is_small(key: u8) -> bool
+    ensures { λ r. ⌜ r ≡ isSmall key ⌝ }
+{
+    (b'a' <= key) & (key <= b'z')
+}
+
+fn is_capital(key: u8) -> bool
+    ensures { λ r. ⌜ r ≡ isCapital key ⌝ }
+{
+    (b'A' <= key) & (key <= b'Z')
+}
+
+fn is_digit(key: u8) -> bool
+    ensures { λ r. ⌜ r ≡ isDigit key ⌝ }
+{
+    (b'0' <= key) & (key <= b'9')
+}
+
+// Keys: a letter A-Z, a-z, in VNI also 0-9.
+pub fn is_key(mode: u8, key: u8) -> bool
+    ensures { λ r. ⌜ r ≡ isKey mode key ⌝ }
+{
+    is_small(key) | (is_capital(key) | ((mode == Word::VNI) & is_digit(key)))
+}
+
+fn lower(key: u8) -> u8
+    ensures { λ r. ⌜ r ≡ lowerOf key ⌝ }
+{
+    if is_capital(key) { key + 32 } else { key }
+}
+
+// A key appended is a plain letter in its own case.
+pub fn letter_of_key(key: u8) -> u16
+    ensures { λ r. ⌜ r ≡ number (letterOfKey key) ⌝ }
+{
+    if is_capital(key) {
+        (key as u16) + 32 + CAPITAL
+    } else {
+        key as u16
+    }
+}
+
+fn telex_role(key: u8) -> Role
+    ensures { λ r. ⌜ r ≡ roleIn telexRoles key ⌝ }
+{
+    match key {
+        b's' => Role::ToneRole(ToneKey::SetTone(ACUTE)),
+        b'f' => Role::ToneRole(ToneKey::SetTone(GRAVE)),
+        b'r' => Role::ToneRole(ToneKey::SetTone(HOOK)),
+        b'x' => Role::ToneRole(ToneKey::SetTone(TILDE)),
+        b'j' => Role::ToneRole(ToneKey::SetTone(DOT)),
+        b'z' => Role::ToneRole(ToneKey::ClearTone),
+        b'a' => Role::ShapeRole(ShapeKey::CircumflexOn(b'a')),
+        b'e' => Role::ShapeRole(ShapeKey::CircumflexOn(b'e')),
+        b'o' => Role::ShapeRole(ShapeKey::CircumflexOn(b'o')),
+        b'w' => Role::ShapeRole(ShapeKey::HornBreve),
+        b'd' => Role::StrokeRole,
+        _ => Role::NoRole,
+    }
+}
+
+fn vni_role(key: u8) -> Role
+    ensures { λ r. ⌜ r ≡ roleIn vniRoles key ⌝ }
+{
+    match key {
+        b'1' => Role::ToneRole(ToneKey::SetTone(ACUTE)),
+        b'2' => Role::ToneRole(ToneKey::SetTone(GRAVE)),
+        b'3' => Role::ToneRole(ToneKey::SetTone(HOOK)),
+        b'4' => Role::ToneRole(ToneKey::SetTone(TILDE)),
+        b'5' => Role::ToneRole(ToneKey::SetTone(DOT)),
+        b'0' => Role::ToneRole(ToneKey::ClearTone),
+        b'6' => Role::ShapeRole(ShapeKey::Circumflex),
+        b'7' => Role::ShapeRole(ShapeKey::Horn),
+        b'8' => Role::ShapeRole(ShapeKey::Breve),
+        b'9' => Role::StrokeRole,
+        _ => Role::NoRole,
+    }
+}
+
+// What a key is for in a mode; upper case acts as lower, and a mode that does not exist has no role.
+pub fn role(mode: u8, key: u8) -> Role
+    ensures { λ r. ⌜ r ≡ roleOf mode key ⌝ }
+{
+    match mode {
+        Word::TELEX => telex_role(lower(key)),
+        Word::VNI => vni_role(lower(key)),
+        _ => Role::NoRole,
+    }
+}
+
+// A number that is a letter which a word of the mode can hold.
+pub fn is_letter(mode: u8, letter: u16) -> bool
+    ensures { λ r. ⌜ r ≡ isLetter mode letter ⌝ }
+{
+    let base = (letter % 256) as u8;
+    let shape = (letter / 256 % 8) as u8;
+    let digit = is_digit(base);
+    ((letter < 2 * CAPITAL) & (is_small(base) | ((mode == Word::VNI) & digit)))
+        & (carries(shape, base) & !(digit & (letter / CAPITAL % 2 == 1)))
+}
+
+// The capital is 32 less below 100 hex, else 1 less.
+fn capital_point(point: u16) -> u16
+    requires { ⌜ 32 ≤ point ⌝ }
+    ensures { λ r. ⌜ r ≡ capitalPoint point ⌝ }
+{
+    if point < 0x100 { point - 32 } else { point - 1 }
+}
+
+// UTF-8 of the code point of a letter, given that of the small letter.
+fn encoded(letter: u16, small: u16) -> LetterBytes
+    requires { ⌜ 32 ≤ small ⌝ }
+    ensures { λ r. ⌜ r ≡ bytesOf (utf8Of (inCase (letterOfNumber letter .capital) small)) ⌝ }
+{
+    if letter / CAPITAL % 2 == 1 {
+        encode(capital_point(small))
+    } else {
+        encode(small)
+    }
+}
+
+// UTF-8 of a code point below 10000 hex.
+fn encode(point: u16) -> LetterBytes
+    ensures { λ r. ⌜ r ≡ bytesOf (utf8Of point) ⌝ }
+{
+    if point < 0x80 {
+        return LetterBytes::One(point as u8);
+    }
+    if point < 0x800 {
+        return LetterBytes::Two((0xC0 + point / 64) as u8, (0x80 + point % 64) as u8);
+    }
+    LetterBytes::Three(
+        (0xE0 + point / 4096) as u8,
+        (0x80 + point / 64 % 64) as u8,
+        (0x80 + point % 64) as u8,
+    )
+}
+
+// The bytes of a letter with a tone on it. A digit is its own byte.
+pub fn utf8(letter: u16, tone: u8) -> LetterBytes
+    ensures { λ r. ⌜ r ≡ written letter tone ⌝ }
+{
+    if !is_letter(Word::VNI, letter) {
+        return LetterBytes::NoLetter;
+    }
+    if DOT < tone {
+        return LetterBytes::NoLetter;
+    }
+    let small = letter % CAPITAL;
+    let row = vowels::row(small);
+    if row < vowels::ROWS {
+        return encoded(letter, vowels::point(row, tone as usize));
+    }
+    if tone != 0 {
+        return LetterBytes::NoLetter;
+    }
+    if small == D_STROKE {
+        return encoded(letter, D_STROKE_POINT);
+    }
+    encoded(letter, letter % 256)
+}
+
+// A byte that goes on a longer sequence of UTF-8.
+fn follows(byte: u8) -> bool
+    ensures { λ r. ⌜ r ≡ followsOn byte ⌝ }
+{
+    (0x80 <= byte) & (byte < 0xC0)
+}
+
+// A letter of one byte is an ASCII letter, in its own case and with no tone.
+fn one_byte(first: u8) -> LetterRead
+    ensures { λ r. ⌜ r ≡ readAs 1 (oneByte first) ⌝ }
+{
+    if is_key(Word::TELEX, first) {
+        return LetterRead::Letter {
+            number: letter_of_key(first),
+            tone: 0,
+            length: 1,
+        };
+    }
+    LetterRead::NoLetter
+}
+
+// A letter of two bytes. The leads C0 and C1 would be overlong.
+fn two_bytes(first: u8, second: u8) -> LetterRead
+    ensures { λ r. ⌜ r ≡ readAs 2 (twoBytes first second) ⌝ }
+{
+    if (0xC2 <= first) & follows(second) {
+        return vowels::find(point_of_two(first, second), 2);
+    }
+    LetterRead::NoLetter
+}
+
+fn point_of_two(first: u8, second: u8) -> u16
+    requires { ⌜ InTwo first second ⌝ }
+    ensures { λ r. ⌜ r ≡ pointOfTwo first second ⌝ }
+{
+    (first as u16 - 0xC0) * 64 + (second as u16 - 0x80)
+}
+
+// A letter of three bytes; a code point below 800 hex would be overlong.
+fn three_bytes(first: u8, second: u8, third: u8) -> LetterRead
+    requires { ⌜ 0xE0 ≤ first ⌝ }
+    ensures { λ r. ⌜ r ≡ readAs 3 (threeBytes first second third) ⌝ }
+{
+    if (first < 0xF0) & (follows(second) & follows(third)) {
+        let point = point_of_three(first, second, third);
+        if 0x800 <= point {
+            return vowels::find(point, 3);
+        }
+    }
+    LetterRead::NoLetter
+}
+
+fn point_of_three(first: u8, second: u8, third: u8) -> u16
+    requires { ⌜ (0xE0 ≤ first) × InThree first second third ⌝ }
+    ensures { λ r. ⌜ r ≡ pointOfThree first second third ⌝ }
+{
+    (first as u16 - 0xE0) * 4096 + (second as u16 - 0x80) * 64 + (third as u16 - 0x80)
+}
+
+// The letter of the alphabet that starts at a place of a text.
+pub fn read(text: &[u8], at: usize) -> LetterRead
+    ensures { λ r. ⌜ r ≡ readAt (now (text .entry)) at ⌝ }
+{
+    if text.len() <= at {
+        return LetterRead::NoLetter;
+    }
+    let left = text.len() - at;
+    let first = text[at];
+    if first < 0x80 {
+        return one_byte(first);
+    }
+    if left < 2 {
+        return LetterRead::NoLetter;
+    }
+    let second = text[at + 1];
+    if first < 0xE0 {
+        return two_bytes(first, second);
+    }
+    if left < 3 {
+        return LetterRead::NoLetter;
+    }
+    three_bytes(first, second, text[at + 2])
+}

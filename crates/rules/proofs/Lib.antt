@@ -9,5 +9,6 @@ pub mod Range
 pub mod Refused
 pub mod StaysInRange
 pub mod Records
+pub mod Typing
 pub mod RecordOrders
 pub mod One

@@ -32,22 +32,23 @@ pub record StateFine (mode : ℕ) (s : State) : Type 0 where
   pub letters : AllFine mode (s .letters)
   pub tone : s .tone ≤ dot
 
--- what a key leaves: such a state, at most one letter longer
+-- what a key leaves: such a state, as long or one letter longer
 pub record Next (mode : ℕ) (s : State) (d : Done) : Type 0 where
   pub fine : StateFine mode (stateOf d)
   pub longer : length (stateOf d .letters) ≤ length (s .letters) + 1
+  pub no-shorter : length (s .letters) ≤ length (stateOf d .letters)
 
 next-append : {mode : ℕ} {s : State} {k : Letter} → StateFine mode s → Fine mode k → Next mode s (appended (append s k))
 next-append {s = s} {k = k} h f =
-    record { fine = record { letters = fine-append (h .letters) f; tone = h .tone }; longer = simp length-append (omega arith) }
+    record { fine = record { letters = fine-append (h .letters) f; tone = h .tone }; longer = simp length-append (omega arith); no-shorter = simp length-append (omega arith) }
 
 -- an undo of letters of the same number, with a tone that exists
 next-undo : {mode : ℕ} (s u : State) (k : Letter) → StateFine mode u → length (s .letters) ≡ length (u .letters) → Fine mode k → Next mode s (undone (undo u k))
 next-undo s u k h e f =
-    record { fine = record { letters = fine-append (h .letters) f; tone = h .tone }; longer = simp length-append (omega arith) }
+    record { fine = record { letters = fine-append (h .letters) f; tone = h .tone }; longer = simp length-append (omega arith); no-shorter = simp length-append (omega arith) }
 
 next-act : {mode : ℕ} (s u : State) {a : Act} → StateFine mode u → length (s .letters) ≡ length (u .letters) → Next mode s (acted a u)
-next-act s u h e = record { fine = h; longer = omega arith }
+next-act s u h e = record { fine = h; longer = omega arith; no-shorter = omega arith }
 
 -- each rule
 next-undoIf : {mode : ℕ} {s u : State} {d : Done} (c : Bool) → Next mode s (undone u) → Next mode s d → Next mode s (undoIf c u d)

@@ -1,0 +1,43 @@
+-- Truth values, and choices by them. Assumes nothing.
+use mathlib.Core.Path.{_≡_, refl}
+use mathlib.Core.Bool.{Bool, true, false, _&&_, _||_}
+use lib.Dec.{T}
+
+-- x where the test holds, else y
+abbrev pub pick : {A : Type 0} → A → Bool → A → A
+pick x t y = elim t [ true ↦ x | false ↦ y ]
+
+abbrev pub ifSo : Bool → Bool → Bool
+ifSo t b = pick b t false
+
+pub T-true : (a : Bool) → T a → a ≡ true
+T-true true t = refl
+T-true false t = absurd t
+
+pub only : (a : Bool) → a ≡ ifSo a true
+only true = refl
+only false = refl
+
+pub never : (a : Bool) → false ≡ ifSo a false
+never true = refl
+never false = refl
+
+pub and-true : (a : Bool) → a ≡ (a && true)
+and-true true = refl
+and-true false = refl
+
+pub and-false : (a : Bool) → false ≡ (a && false)
+and-false true = refl
+and-false false = refl
+
+pub and-if : (a b : Bool) → (a && b) ≡ ifSo a b
+and-if true b = refl
+and-if false b = refl
+
+pub or-if : (a b : Bool) → pick true a b ≡ (a || b)
+or-if true b = refl
+or-if false b = refl
+
+pub or-assoc : (a b c : Bool) → ((a || b) || c) ≡ (a || (b || c))
+or-assoc true b c = refl
+or-assoc false b c = refl

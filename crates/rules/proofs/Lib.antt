@@ -10,5 +10,8 @@ pub mod Refused
 pub mod StaysInRange
 pub mod Records
 pub mod Typing
+pub mod Counts
+pub mod Admits
+pub mod UsedPlaces
 pub mod RecordOrders
 pub mod One

@@ -110,7 +110,7 @@ pub next : (z : Typed) (k : ℕ) → T (isKey (z .mode) k) → StateFine (z .mod
 next z k t h = next-unlessClosed (z .state .closed) (role (z .mode) k) (z .state) (letterOfKey k) (role-exists (z .mode) k) h (fine-key (z .mode) k t)
 
 -- the counts: one of the three is one more
-sum-more : (o : Outcome) (a u p : ℕ) → oneMore (isActed o) a + oneMore (isUndone o) u + oneMore (isAppended o) p ≡ a + u + p + 1
+pub sum-more : (o : Outcome) (a u p : ℕ) → oneMore (isActed o) a + oneMore (isUndone o) u + oneMore (isAppended o) p ≡ a + u + p + 1
 sum-more (Acted x) a u p = omega arith
 sum-more Undone a u p = omega arith
 sum-more Appended a u p = omega arith

@@ -1,0 +1,141 @@
+-- Places of a record past its counts: two records that agree in all else get the same answers, and a step leaves those places as they were.
+use mathlib.Core.Path.{_≡_, refl, sym, ap, ap₂, _∙_}
+use mathlib.Core.Bool.{Bool}
+use mathlib.Core.List.{List, [], _∷_, map}
+use mathlib.Core.Option.{Option, none, some}
+use Prim.Native.Nat.{ℕ, _+_, _-_, _≤_}
+use native.Mathlib.Nat.{le-refl}
+use native.Mathlib.Omega.{arith}
+use lib.ListN.{length, take, drop, getD, length-map}
+use lib.Seq.{take-take, getD-append-add, getD-drop}
+use Rattle.rules.specs.TakingApart.{verdict}
+use Rattle.rules.specs.TonePlace.{tonePlace}
+use Rattle.rules.specs.TheWord.{Typed, outcomeOf, letter, number, wordOf, atFront}
+use Rattle.rules.specs.KeyRoles.{keyDoes, type}
+use Rattle.rules.specs.Decision.{decision}
+use Rattle.rules.specs.Refusals.{Call, TableRow, asks, table, firstRow, outOfRange, refusal}
+use Rattle.rules.specs.WhatComesBack.{stepCall, stepOr, step, wordCall, placeOr, placeAnswer, verdictOr, verdictAnswer, decisionOr, decisionAnswer}
+use Rattle.rules.specs.declared.Word.{Word}
+use Rattle.rules.specs.declared.Refusal.{Refusal}
+use Rattle.rules.specs.declared.StepAnswer.the-variants.{Did}
+use Rattle.rules.specs.declared.PlaceAnswer.the-variants.{Found}
+use Rattle.rules.specs.declared.VerdictAnswer.the-variants.{Judged}
+use Rattle.rules.specs.declared.DecisionAnswer.the-variants.{Decided}
+
+-- the record with other arrays
+abbrev withArrays : Word → List ℕ → List ℕ → Word
+withArrays w ls ks =
+    record {
+      mode = w .mode;
+      letters = ls;
+      count = w .count;
+      tone = w .tone;
+      closed = w .closed;
+      keys = ks;
+      typed = w .typed;
+      acted = w .acted;
+      undone = w .undone;
+      appended = w .appended;
+    }
+
+-- the record with its used places alone
+abbrev pub used : Word → Word
+used w = withArrays w (take (w .count) (w .letters)) (take (w .typed) (w .keys))
+
+again : (n : ℕ) (l : List ℕ) → take n (take n l) ≡ take n l
+again n l = take-take n n l (le-refl n)
+
+-- what reads used places alone answers the same of both
+range-used : (w : Word) → outOfRange (used w) ≡ outOfRange w
+unfolding outOfRange
+range-used w = rw (again (w .typed) (w .keys), again (w .count) (w .letters))
+
+word-used : (w : Word) → wordOf (used w) ≡ wordOf w
+word-used w =
+    λ i. record {
+      mode = w .mode;
+      state = record { letters = map letter (again (w .count) (w .letters) i); tone = w .tone; closed = w .closed };
+      keys = again (w .typed) (w .keys) i;
+      acted = w .acted;
+      undone = w .undone;
+      appended = w .appended;
+    }
+
+abbrev rest : List TableRow → List TableRow
+rest [] = []
+rest (r ∷ rs) = rs
+
+-- a call whose record is asked about in row 8 alone
+refusal-used : (w : Word) (c d : Call) → c .record? ≡ some (used w) → d .record? ≡ some w → rest (table c) ≡ rest (table d) → refusal c ≡ refusal d
+unfolding refusal
+refusal-used w c d p q e =
+    ap₂ (λ (o : Option Word) (rs : List TableRow). firstRow (record { number = 8; when = asks outOfRange o; returned = 0 } ∷ rs)) p e ∙
+    ap (λ (b : Bool). firstRow (record { number = 8; when = b; returned = 0 } ∷ rest (table d))) (range-used w) ∙
+    ap (λ (o : Option Word). firstRow (record { number = 8; when = asks outOfRange o; returned = 0 } ∷ rest (table d))) (sym q)
+
+-- an answer that is made of the refusal and the word that is read
+module _ {A : Type 0} (answer : Option Refusal → Word → A) (byWord : Typed → A) (same : (w : Word) → answer none w ≡ byWord (wordOf w)) (alike : (x : Refusal) (v w : Word) → answer (some x) v ≡ answer (some x) w) where
+  answer-used : (o : Option Refusal) (w : Word) → answer o (used w) ≡ answer o w
+  answer-used none w = same (used w) ∙ ap byWord (word-used w) ∙ sym (same w)
+  answer-used (some x) w = alike x (used w) w
+
+step-used : (w : Word) (k : ℕ) → step (used w) k .answer ≡ step w k .answer
+unfolding step
+step-used w k =
+    ap (λ (o : Option Refusal). stepOr o (used w) k .answer) (refusal-used w (stepCall (used w) k) (stepCall w k) refl refl refl) ∙
+    answer-used (λ o v. stepOr o v k .answer) (λ z. Did (outcomeOf (keyDoes z k))) (λ v. refl) (λ x u v. refl) (refusal (stepCall w k)) w
+
+place-used : (w : Word) → placeAnswer (used w) ≡ placeAnswer w
+unfolding placeAnswer
+place-used w =
+    ap (λ (o : Option Refusal). placeOr o (used w)) (refusal-used w (wordCall (used w)) (wordCall w) refl refl refl) ∙
+    answer-used placeOr (λ z. Found (tonePlace (z .state .letters) (z .state .tone))) (λ v. refl) (λ x u v. refl) (refusal (wordCall w)) w
+
+verdict-used : (w : Word) → verdictAnswer (used w) ≡ verdictAnswer w
+unfolding verdictAnswer
+verdict-used w =
+    ap (λ (o : Option Refusal). verdictOr o (used w)) (refusal-used w (wordCall (used w)) (wordCall w) refl refl refl) ∙
+    answer-used verdictOr (λ z. Judged (verdict (z .state .letters) (z .state .tone))) (λ v. refl) (λ x u v. refl) (refusal (wordCall w)) w
+
+decision-used : (w : Word) → decisionAnswer (used w) ≡ decisionAnswer w
+unfolding decisionAnswer
+decision-used w =
+    ap (λ (o : Option Refusal). decisionOr o (used w)) (refusal-used w (wordCall (used w)) (wordCall w) refl refl refl) ∙
+    answer-used decisionOr (λ z. Decided (decision z)) (λ v. refl) (λ x u v. refl) (refusal (wordCall w)) w
+
+-- two records that agree in counts, marks and used places
+module _ (v w : Word) (agree : used v ≡ used w) where
+  pub same-step : (k : ℕ) → step v k .answer ≡ step w k .answer
+  same-step k = sym (step-used v k) ∙ ap (λ (x : Word). step x k .answer) agree ∙ step-used w k
+
+  pub same-place : placeAnswer v ≡ placeAnswer w
+  same-place = sym (place-used v) ∙ ap placeAnswer agree ∙ place-used w
+
+  pub same-verdict : verdictAnswer v ≡ verdictAnswer w
+  same-verdict = sym (verdict-used v) ∙ ap verdictAnswer agree ∙ verdict-used w
+
+  pub same-decision : decisionAnswer v ≡ decisionAnswer w
+  same-decision = sym (decision-used v) ∙ ap decisionAnswer agree ∙ decision-used w
+
+-- a place that the new word does not use is as it was
+unused : (new old : List ℕ) (i d : ℕ) → length new ≤ i → getD (atFront new old) i d ≡ getD old i d
+unused new old i d h =
+    let e : i ≡ length new + (i - length new) = omega arith in
+    ap (λ (j : ℕ). getD (atFront new old) j d) e ∙ getD-append-add new (drop (length new) old) (i - length new) d ∙ getD-drop (length new) old (i - length new) d ∙
+    ap (λ (j : ℕ). getD old j d) (sym e)
+
+pub letters-past : (w : Word) (k i d : ℕ) → step w k .word .count ≤ i → getD (step w k .word .letters) i d ≡ getD (w .letters) i d
+unfolding step
+letters-past w k i d = go (refusal (stepCall w k))
+  where
+    go : (o : Option Refusal) → stepOr o w k .word .count ≤ i → getD (stepOr o w k .word .letters) i d ≡ getD (w .letters) i d
+    go none h = unused (map number (type (wordOf w) k .state .letters)) (w .letters) i d (simp length-map h)
+    go (some x) h = refl
+
+pub keys-past : (w : Word) (k i d : ℕ) → step w k .word .typed ≤ i → getD (step w k .word .keys) i d ≡ getD (w .keys) i d
+unfolding step
+keys-past w k i d = go (refusal (stepCall w k))
+  where
+    go : (o : Option Refusal) → stepOr o w k .word .typed ≤ i → getD (stepOr o w k .word .keys) i d ≡ getD (w .keys) i d
+    go none h = unused (type (wordOf w) k .keys) (w .keys) i d h
+    go (some x) h = refl

@@ -1,0 +1,9 @@
+pub mod Arrays
+pub mod States
+pub mod Stored
+pub mod Aimings
+pub mod Strokes
+pub mod Tries
+pub mod Rulings
+pub mod Steps
+pub mod One

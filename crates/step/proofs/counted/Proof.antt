@@ -1,0 +1,23 @@
+-- `step::counted` meets its contract: each arm raises the count of its outcome.
+use mathlib.Core.Path.{sym, ap}
+use borrow.Author.Needs.{needs}
+use Rattle.step.specs.Held.{countedIn}
+use Rattle.step.proofs.States.{neither}
+use Rattle.step.proofs.counted.Statement.{statement}
+use Rattle.step.proofs.counted.Tie as tie
+
+pub counted-spec : {M : Type 1} → statement M
+counted-spec =
+    tie.close
+    (tie.spec
+    (λ c. search needs)
+    (λ c. search needs)
+    (λ c. search needs)
+    (λ c. search needs)
+    (λ c. search needs)
+    (λ c. let args = c .before .before .before .before .before .before .args in sym (ap (countedIn (args .done .word) (args .key)) (c .before .enum-told .given .1)))
+    (λ c. search needs)
+    (λ c. search needs)
+    (λ c. let args = c .before .before .before .before .before .before .before .args in sym (ap (countedIn (args .done .word) (args .key)) (c .before .enum-told2 .given .1)))
+    (λ c. search needs)
+    (λ c. let args = c .before .before .before .before .before .before .args in neither (args .done .word) (args .key) (args .done .outcome) (c .before .before .match .keys2) (c .before .match2 .keys2)))

@@ -1,0 +1,74 @@
+-- What the rules find is what stands at the places of the targets.
+use mathlib.Core.Path.{_≡_, refl, ap, ap₂, _∙_}
+use mathlib.Core.Bool.{Bool, true, false, _&&_}
+use mathlib.Core.List.{[], _∷_}
+use Prim.Native.Nat.{ℕ, suc}
+use lib.Dec.{eqb}
+use Rattle.rules.specs.Letters.{Letter, Letters, plain, horn}
+use Rattle.rules.specs.KeyRoles.{shaped, Found, behind, orElse, ifSo, target, here, last, isQ, pairHere, pair, single, horned}
+use Rattle.rules.specs.declared.Place.{Place}
+use Rattle.rules.specs.declared.Place.the-variants.{At, Nowhere}
+use Rattle.targets.specs.Places.{next, orHere, hereOr, lastPlace, isPair, pairPlace, isSingle, singlePlace}
+use Rattle.targets.specs.Aims.{shapeAt, oneAt, pairAt}
+
+behind-target : (c : Bool) (x : Letter) (v w : Letters) → behind x (target c v w) ≡ target c (x ∷ v) (x ∷ w)
+behind-target true x v w = refl
+behind-target false x v w = refl
+
+or-target : (c : Bool) (v w : Letters) (f : Found) → orElse (target c v w) f ≡ target c v w
+or-target true v w f = refl
+or-target false v w f = refl
+
+-- one letter further on
+one-next : (sh : ℕ) (p : Place) (x : Letter) (xs : Letters) → behind x (oneAt sh p xs) ≡ oneAt sh (next p) (x ∷ xs)
+one-next sh Nowhere x xs = refl
+one-next sh (At i) x xs = behind-target (eqb (shapeAt i xs) sh) x _ _
+
+pair-next : (p : Place) (x : Letter) (xs : Letters) → behind x (pairAt p xs) ≡ pairAt (next p) (x ∷ xs)
+pair-next Nowhere x xs = refl
+pair-next (At i) x xs = behind-target (eqb (shapeAt i xs) horn && eqb (shapeAt (suc i) xs) horn) x _ _
+
+-- the last letter with a wanted base
+pub last-is : (want : ℕ → Bool) (sh : ℕ) (xs : Letters) → last want sh xs ≡ oneAt sh (lastPlace want xs) xs
+last-is want sh [] = refl
+last-is want sh (x ∷ xs) =
+    ap (λ (f : Found). orElse (behind x f) (ifSo (want (x .base)) (here sh x xs))) (last-is want sh xs) ∙ go (lastPlace want xs) (want (x .base))
+  where
+    go : (p : Place) (c : Bool) → orElse (behind x (oneAt sh p xs)) (ifSo c (here sh x xs)) ≡ oneAt sh (orHere p c) (x ∷ xs)
+    go (At i) c = ap (λ (f : Found). orElse f (ifSo c (here sh x xs))) (one-next sh (At i) x xs) ∙ or-target (eqb (shapeAt i xs) sh) _ _ _
+    go Nowhere true = refl
+    go Nowhere false = refl
+
+-- the first o or u not directly after q
+pub single-is : (q : Bool) (xs : Letters) → single q xs ≡ oneAt horn (singlePlace q xs) xs
+single-is q [] = refl
+single-is q (x ∷ xs) =
+    ap (λ (f : Found). orElse (ifSo (isSingle q (x .base)) (here horn x xs)) (behind x f)) (single-is (isQ x) xs) ∙ go (isSingle q (x .base)) (singlePlace (isQ x) xs)
+  where
+    go : (c : Bool) (p : Place) → orElse (ifSo c (here horn x xs)) (behind x (oneAt horn p xs)) ≡ oneAt horn (hereOr c p) (x ∷ xs)
+    go true p = or-target (eqb (x .shape) horn) _ _ _
+    go false p = one-next horn p x xs
+
+-- the first u followed directly by o, the u not directly after q
+pub pair-is : (q : Bool) (xs : Letters) → pair q xs ≡ pairAt (pairPlace q xs) xs
+pair-is q [] = refl
+pair-is q (x ∷ []) = refl
+pair-is q (x ∷ z ∷ zs) =
+    ap (λ (f : Found). orElse (pairHere q x (z ∷ zs)) (behind x f)) (pair-is (isQ x) (z ∷ zs)) ∙ go (isPair q (x .base) (z .base)) (pairPlace (isQ x) (z ∷ zs))
+  where
+    go : (c : Bool) (p : Place) →
+        orElse (ifSo c (target (eqb (x .shape) horn && eqb (z .shape) horn) (shaped plain x ∷ shaped plain z ∷ zs) (shaped horn x ∷ shaped horn z ∷ zs))) (behind x (pairAt p (z ∷ zs))) ≡ pairAt (hereOr c p) (x ∷ z ∷ zs)
+    go true p = or-target (eqb (x .shape) horn && eqb (z .shape) horn) _ _ _
+    go false p = pair-next p x (z ∷ zs)
+
+-- horn: the pair; with no such pair the single letter; or nothing
+module _ (xs : Letters) where
+  horn-at : horned xs ≡ orElse (pairAt (pairPlace false xs) xs) (oneAt horn (singlePlace false xs) xs)
+  horn-at = ap₂ orElse (pair-is false xs) (single-is false xs)
+
+  pub horned-pair : {i : ℕ} → pairPlace false xs ≡ At i → horned xs ≡ pairAt (At i) xs
+  horned-pair {i} e =
+      horn-at ∙ ap (λ (p : Place). orElse (pairAt p xs) (oneAt horn (singlePlace false xs) xs)) e ∙ or-target (eqb (shapeAt i xs) horn && eqb (shapeAt (suc i) xs) horn) _ _ _
+
+  pub horned-single : {p : Place} → pairPlace false xs ≡ Nowhere → singlePlace false xs ≡ p → horned xs ≡ oneAt horn p xs
+  horned-single e f = horn-at ∙ ap₂ (λ (p q : Place). orElse (pairAt p xs) (oneAt horn q xs)) e f

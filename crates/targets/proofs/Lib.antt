@@ -1,0 +1,4 @@
+pub mod Turns
+pub mod Finds
+pub mod Within
+pub mod One

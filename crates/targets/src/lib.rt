@@ -1,0 +1,120 @@
+// Where a shape key aims: places in a lent slice of letter numbers, of any length.
+use rules::Place;
+use rules::ShapeKey;
+ghost use mathlib.Core.Path.{_≡_};
+ghost use mathlib.Core.List.{map};
+ghost use Prim.Native.Nat.{_%_};
+ghost use Rattle.rules.specs.TheWord.{letter, number};
+ghost use mathlib.Core.Bool.{false};
+ghost use Rattle.rules.specs.KeyRoles.{shaped, isAEO, isQ};
+ghost use Rattle.targets.specs.Places.{wanted, lastPlace, isPair, pairPlace, isSingle, singlePlace};
+ghost use Rattle.targets.specs.Aims.{reshapedAt};
+
+fn base(n: u16) -> u8
+    ensures { λ r. ⌜ r ≡ letter n .base ⌝ }
+{
+    (n % 256) as u8
+}
+
+// The same letter in another shape, one of the eight that a letter's number has room for.
+fn reshaped(n: u16, shape: u8) -> u16
+    ensures { λ r. ⌜ r ≡ number (shaped (shape % 8) (letter n)) ⌝ }
+{
+    n % 256 + 256 * ((shape % 8) as u16) + n / 2048 % 2 * 2048
+}
+
+// The array with the letter at a place in another shape; as it was where there is no such place.
+pub fn reshaped_at(letters: [u16; 32], i: usize, shape: u8) -> [u16; 32]
+    ensures { λ r. ⌜ r ≡ reshapedAt letters i (shape % 8) ⌝ }
+{
+    let mut next = letters;
+    if i < 32 {
+        next[i] = reshaped(letters[i], shape);
+    }
+    next
+}
+
+// Circumflex wants its own letter, or a, e or o; breve wants a.
+fn wants(key: ShapeKey, n: u16) -> bool
+    ensures { λ r. ⌜ r ≡ wanted key (letter n .base) ⌝ }
+{
+    let b = base(n);
+    match key {
+        ShapeKey::CircumflexOn(own) => is_aeo(b) & (b == own),
+        ShapeKey::Circumflex => is_aeo(b),
+        ShapeKey::Breve => b == b'a',
+        ShapeKey::Horn => false,
+        ShapeKey::HornBreve => false,
+    }
+}
+
+fn is_aeo(b: u8) -> bool
+    ensures { λ r. ⌜ r ≡ isAEO b ⌝ }
+{
+    (b == b'a') | ((b == b'e') | (b == b'o'))
+}
+
+// The last letter with a wanted base.
+pub fn last_wanted(letters: &[u16], key: ShapeKey) -> Place
+    ensures { λ r. ⌜ r ≡ lastPlace (wanted key) (map letter (now (letters .entry))) ⌝ }
+{
+    let mut i = letters.len();
+    while 0 < i {
+        i -= 1;
+        if wants(key, letters[i]) {
+            return Place::At(i);
+        }
+    }
+    Place::Nowhere
+}
+
+fn is_q(n: u16) -> bool
+    ensures { λ r. ⌜ r ≡ isQ (letter n) ⌝ }
+{
+    base(n) == b'q'
+}
+
+fn is_pair(after_q: bool, first: u16, second: u16) -> bool
+    ensures { λ r. ⌜ r ≡ isPair «after_q» (letter first .base) (letter second .base) ⌝ }
+{
+    (base(first) == b'u') & ((base(second) == b'o') & !after_q)
+}
+
+// The first u followed directly by o, the u not directly after q.
+pub fn pair(letters: &[u16]) -> Place
+    ensures { λ r. ⌜ r ≡ pairPlace false (map letter (now (letters .entry))) ⌝ }
+{
+    let mut after_q = false;
+    let mut i = 0;
+    while i + 1 < letters.len() {
+        if is_pair(after_q, letters[i], letters[i + 1]) {
+            return Place::At(i);
+        }
+        after_q = is_q(letters[i]);
+        i += 1;
+    }
+    Place::Nowhere
+}
+
+fn is_single(after_q: bool, n: u16) -> bool
+    ensures { λ r. ⌜ r ≡ isSingle «after_q» (letter n .base) ⌝ }
+{
+    let b = base(n);
+    ((b == b'o') | (b == b'u')) & !after_q
+}
+
+// The first o or u not directly after q.
+pub fn single(letters: &[u16]) -> Place
+    ensures { λ r. ⌜ r ≡ singlePlace false (map letter (now (letters .entry))) ⌝ }
+{
+    let mut after_q = false;
+    let mut i = 0;
+    while i < letters.len() {
+        if is_single(after_q, letters[i]) {
+            return Place::At(i);
+        }
+        after_q = is_q(letters[i]);
+        i += 1;
+    }
+    Place::Nowhere
+}

@@ -1,0 +1,43 @@
+-- `word::type_all` meets its contract: each answer is the row of its test, or the keys typed.
+use mathlib.Core.Path.{sym, ap, _∙_}
+use native.Mathlib.Omega.{arith}
+use borrow.Author.Needs.{needs}
+use Rattle.rules.specs.declared.Word.{Word}
+use Rattle.rules.specs.declared.TypeAnswer.the-variants.{Typed}
+use Rattle.rules.specs.Refusals.{isMode}
+use Rattle.word.specs.Refusing.{refusedOf}
+use Rattle.word.proofs.Lists.{all-allowed}
+use Rattle.word.proofs.Answers.{no-mode, too-many, not-a-key, all-typed, mode-there}
+use Rattle.word.proofs.type_all.Statement.{statement}
+use Rattle.word.proofs.type_all.Tie as tie
+
+pub type-all-spec : {M : Type 1} → statement M
+type-all-spec =
+    tie.close
+    (tie.spec
+    (λ c κs. search needs)
+    (λ c. let args = c .before .before .before .args in c .refused .ensures ∙ sym (no-mode (args .mode) (args .keys .now) (c .before .if1 .taken)))
+    (λ c κs. search needs)
+    (λ c.
+    let no = c .before .before in
+    let args = no .before .before .args in
+    c .refused2 .ensures ∙ sym (too-many (args .mode) (args .keys .now) (no .if1 .left) (c .before .if2 .taken)))
+    (λ c κs. search needs)
+    (λ c κs. search needs)
+    (λ c.
+    let few = c .before .before .before in
+    let args = few .before .before .before .args in
+    let e = c .before .before .allowed-before .ensures in
+    c .refused3 .ensures ∙ ap (refusedOf 3) e ∙
+    sym (not-a-key (args .mode) (args .keys .now) (few .before .if1 .left) (few .if2 .left) (all-allowed (args .mode) (args .keys .now) .1 (omega (arith, e, c .before .if3 .taken)))))
+    (λ c κs.
+    let few = c .before .before in
+    let args = few .before .before .before .args in
+    let all = all-allowed (args .mode) (args .keys .now) in
+    (mode-there (isMode (args .mode)) (few .before .if1 .left), few .if2 .left, all .0 (omega (arith, c .before .allowed-before .ensures, c .if3 .left, all .2))))
+    (λ c.
+    let few = c .before .before .before in
+    let args = few .before .before .before .args in
+    let all = all-allowed (args .mode) (args .keys .now) in
+    ap (λ (w : Word). record { answer = Typed; word = w }) (c .typed-all .ensures) ∙
+    sym (all-typed (args .mode) (args .keys .now) (few .before .if1 .left) (few .if2 .left) (all .0 (omega (arith, c .before .before .allowed-before .ensures, c .before .if3 .left, all .2))))))

@@ -32,7 +32,8 @@ fn asked(letters: [u16; 32], on: [u16; 32], count: usize, kind: u8) -> Edited
     requires { ⌜ count ≤ 32 ⌝ }
     ensures { λ r. ⌜ r ≡ askedIn letters on (map letter (take count on)) kind ⌝ }
 {
-    if syllable::admitted(&on[0..count]) {
+    let asked_about = on;
+    if syllable::admitted(&asked_about[0..count]) {
         return Edited {
             edit: Edit::Change(Act::Shape(kind)),
             letters: on,

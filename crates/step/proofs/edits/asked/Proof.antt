@@ -17,7 +17,7 @@ asked-spec =
     (λ c κs. search needs)
     (λ c.
     let args = c .before .before .before .before .args in
-    ap (λ (b : Bool). askedIf b (args .letters) (args .t2) (args .kind)) (sym (c .if1 .taken) ∙ c .before .admitted .ensures ∙ from-start (args .count) (args .t2)))
+    ap (λ (b : Bool). askedIf b (args .letters) (args .on) (args .kind)) (sym (c .if1 .taken) ∙ c .before .admitted .ensures ∙ from-start (args .count) (args .on)))
     (λ c.
     let args = c .before .before .before .before .args in
-    ap (λ (b : Bool). askedIf b (args .letters) (args .t2) (args .kind)) (sym (c .if1 .left) ∙ c .before .admitted .ensures ∙ from-start (args .count) (args .t2))))
+    ap (λ (b : Bool). askedIf b (args .letters) (args .on) (args .kind)) (sym (c .if1 .left) ∙ c .before .admitted .ensures ∙ from-start (args .count) (args .on))))

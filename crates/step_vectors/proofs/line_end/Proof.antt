@@ -1,0 +1,23 @@
+-- `step_vectors::line_end` ends, at a place of the text that is not before its start.
+use Prim.Native.Nat.{_≤_, _-_}
+use native.Mathlib.Omega.{arith}
+use lib.ListN.{length}
+use Rattle.step_vectors.proofs.line_end.Statement.{statement}
+use Rattle.step_vectors.proofs.line_end.Tie as tie
+
+abbrev Inv-loop : tie.InvT-loop
+Inv-loop text from i₀ i = (from ≤ i) × (i ≤ length text)
+
+abbrev μ-loop : tie.MeasureT-loop
+μ-loop text from i₀ i = length text - i
+
+pub line-end-spec : {M : Type 1} → statement M
+line-end-spec = tie.close (tie.spec Inv-loop μ-loop
+    (λ c. omega arith)
+    (λ c. omega arith)
+    (λ c. omega arith)
+    (λ c. omega arith)
+    (λ c. omega arith)
+    (λ c. omega arith)
+    (λ c. omega arith)
+    )

@@ -23,23 +23,11 @@ use Rattle.rules.proofs.Orders.{withKeys, orders}
 use Rattle.rules.proofs.Range.{in-range}
 use Rattle.rules.proofs.Refused.{refusal-none}
 use Rattle.rules.proofs.StaysInRange.{Whole, state-fine, next, room-and-key, step-in-range}
-use Rattle.rules.proofs.Records.{word-held, held-twice, accepted}
+use Rattle.rules.proofs.Records.{withArrays, word-held, held-twice, accepted}
 
 -- the record with other keys in its array
 abbrev pub withKeyArray : Word → List ℕ → Word
-withKeyArray w ks =
-    record {
-      mode = w .mode;
-      letters = w .letters;
-      count = w .count;
-      tone = w .tone;
-      closed = w .closed;
-      keys = ks;
-      typed = w .typed;
-      acted = w .acted;
-      undone = w .undone;
-      appended = w .appended;
-    }
+withKeyArray w ks = withArrays w (w .letters) ks
 
 -- the two records are equal in everything but the kept keys, which are the old keys and then the two in the order typed; both keys act in both orders
 pub record SameRecords (w : Word) (k m : ℕ) (a b : Act) : Type 0 where

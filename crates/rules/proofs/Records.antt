@@ -19,6 +19,22 @@ use Rattle.rules.proofs.Refused.{no-rows, not-this, refusal-none}
 use Rattle.rules.proofs.StaysInRange.{read-front}
 use Rattle.rules.proofs.Range.{not-over, twice}
 
+-- the record with other arrays
+abbrev pub withArrays : Word → List ℕ → List ℕ → Word
+withArrays w ls ks =
+    record {
+      mode = w .mode;
+      letters = ls;
+      count = w .count;
+      tone = w .tone;
+      closed = w .closed;
+      keys = ks;
+      typed = w .typed;
+      acted = w .acted;
+      undone = w .undone;
+      appended = w .appended;
+    }
+
 -- what a record holds is read back
 pub word-held : (w : Word) (z : Typed) → AllFine (z .mode) (z .state .letters) → wordOf (holding w z) ≡ z
 word-held w z f =

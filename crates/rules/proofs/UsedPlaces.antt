@@ -1,4 +1,4 @@
--- Places of a record past its counts: two records that agree in all else get the same answers, and a step leaves those places as they were.
+-- Places of a record past its counts: two records that agree in all else get the same answers and still agree after a step, and a step leaves those places as they were.
 use mathlib.Core.Path.{_≡_, refl, sym, ap, ap₂, _∙_}
 use mathlib.Core.Bool.{Bool}
 use mathlib.Core.List.{List, [], _∷_, map}
@@ -10,33 +10,20 @@ use lib.ListN.{length, take, drop, getD, length-map}
 use lib.Seq.{take-take, getD-append-add, getD-drop}
 use Rattle.rules.specs.TakingApart.{verdict}
 use Rattle.rules.specs.TonePlace.{tonePlace}
-use Rattle.rules.specs.TheWord.{Typed, outcomeOf, letter, number, wordOf, atFront}
+use Rattle.rules.specs.TheWord.{Typed, outcomeOf, letter, number, wordOf, atFront, holding}
 use Rattle.rules.specs.KeyRoles.{keyDoes, type}
 use Rattle.rules.specs.Decision.{decision}
+use Rattle.rules.specs.CodePoints.{shown}
 use Rattle.rules.specs.Refusals.{Call, TableRow, asks, table, firstRow, outOfRange, refusal}
-use Rattle.rules.specs.WhatComesBack.{stepCall, stepOr, step, wordCall, placeOr, placeAnswer, verdictOr, verdictAnswer, decisionOr, decisionAnswer}
+use Rattle.rules.specs.WhatComesBack.{stepCall, stepOr, step, writeOr, showCall, show, wordCall, placeOr, placeAnswer, verdictOr, verdictAnswer, decisionOr, decisionAnswer}
 use Rattle.rules.specs.declared.Word.{Word}
 use Rattle.rules.specs.declared.Refusal.{Refusal}
 use Rattle.rules.specs.declared.StepAnswer.the-variants.{Did}
 use Rattle.rules.specs.declared.PlaceAnswer.the-variants.{Found}
 use Rattle.rules.specs.declared.VerdictAnswer.the-variants.{Judged}
 use Rattle.rules.specs.declared.DecisionAnswer.the-variants.{Decided}
-
--- the record with other arrays
-abbrev withArrays : Word → List ℕ → List ℕ → Word
-withArrays w ls ks =
-    record {
-      mode = w .mode;
-      letters = ls;
-      count = w .count;
-      tone = w .tone;
-      closed = w .closed;
-      keys = ks;
-      typed = w .typed;
-      acted = w .acted;
-      undone = w .undone;
-      appended = w .appended;
-    }
+use Rattle.rules.proofs.StaysInRange.{read-front}
+use Rattle.rules.proofs.Records.{withArrays}
 
 -- the record with its used places alone
 abbrev pub used : Word → Word
@@ -74,39 +61,68 @@ refusal-used w c d p q e =
     ap (λ (o : Option Word). firstRow (record { number = 8; when = asks outOfRange o; returned = 0 } ∷ rest (table d))) (sym q)
 
 -- an answer that is made of the refusal and the word that is read
-module _ {A : Type 0} (answer : Option Refusal → Word → A) (byWord : Typed → A) (same : (w : Word) → answer none w ≡ byWord (wordOf w)) (alike : (x : Refusal) (v w : Word) → answer (some x) v ≡ answer (some x) w) where
+module _ {A : Type 0} (answer : Option Refusal → Word → A) (byWord : Typed → A) (same : (w : Word) → answer none w ≡ byWord (wordOf w)) (refused : (x : Refusal) (w : Word) → answer (some x) (used w) ≡ answer (some x) w) where
   answer-used : (o : Option Refusal) (w : Word) → answer o (used w) ≡ answer o w
   answer-used none w = same (used w) ∙ ap byWord (word-used w) ∙ sym (same w)
-  answer-used (some x) w = alike x (used w) w
+  answer-used (some x) w = refused x w
 
 step-used : (w : Word) (k : ℕ) → step (used w) k .answer ≡ step w k .answer
 unfolding step
 step-used w k =
     ap (λ (o : Option Refusal). stepOr o (used w) k .answer) (refusal-used w (stepCall (used w) k) (stepCall w k) refl refl refl) ∙
-    answer-used (λ o v. stepOr o v k .answer) (λ z. Did (outcomeOf (keyDoes z k))) (λ v. refl) (λ x u v. refl) (refusal (stepCall w k)) w
+    answer-used (λ o v. stepOr o v k .answer) (λ z. Did (outcomeOf (keyDoes z k))) (λ v. refl) (λ x v. refl) (refusal (stepCall w k)) w
+
+-- what a record that holds a word uses is of the word alone
+held-used : (w : Word) (z : Typed) → used (holding w z) ≡ withArrays (holding w z) (map number (z .state .letters)) (z .keys)
+held-used w z =
+    ap₂ (withArrays (holding w z)) (read-front (map number (z .state .letters)) (w .letters) (length (z .state .letters)) (length-map (z .state .letters) number)) (read-front (z .keys) (w .keys) (length (z .keys)) refl)
+
+used-used : (w : Word) → used (used w) ≡ used w
+used-used w = ap₂ (withArrays w) (again (w .count) (w .letters)) (again (w .typed) (w .keys))
+
+next-used : (w : Word) (k : ℕ) → used (step (used w) k .word) ≡ used (step w k .word)
+unfolding step
+next-used w k =
+    ap (λ (o : Option Refusal). used (stepOr o (used w) k .word)) (refusal-used w (stepCall (used w) k) (stepCall w k) refl refl refl) ∙
+    answer-used (λ o v. used (stepOr o v k .word)) (λ z. withArrays (holding w (type z k)) (map number (type z k .state .letters)) (type z k .keys))
+    (λ v. held-used v (type (wordOf v) k)) (λ x v. used-used v) (refusal (stepCall w k)) w
+
+show-used : (w : Word) (out : List ℕ) → show (used w) out ≡ show w out
+unfolding show
+show-used w out =
+    ap₂ (λ (o : Option Refusal) (z : Typed). writeOr o (shown (z .state)) out)
+    (refusal-used w (showCall (used w) out) (showCall w out) refl refl
+    (ap (λ (z : Typed). rest (table (record { record? = none; mode? = none; keys? = none; text? = none; room? = some (record { needed = length (shown (z .state)); there = length out }) }))) (word-used w)))
+    (word-used w)
 
 place-used : (w : Word) → placeAnswer (used w) ≡ placeAnswer w
 unfolding placeAnswer
 place-used w =
     ap (λ (o : Option Refusal). placeOr o (used w)) (refusal-used w (wordCall (used w)) (wordCall w) refl refl refl) ∙
-    answer-used placeOr (λ z. Found (tonePlace (z .state .letters) (z .state .tone))) (λ v. refl) (λ x u v. refl) (refusal (wordCall w)) w
+    answer-used placeOr (λ z. Found (tonePlace (z .state .letters) (z .state .tone))) (λ v. refl) (λ x v. refl) (refusal (wordCall w)) w
 
 verdict-used : (w : Word) → verdictAnswer (used w) ≡ verdictAnswer w
 unfolding verdictAnswer
 verdict-used w =
     ap (λ (o : Option Refusal). verdictOr o (used w)) (refusal-used w (wordCall (used w)) (wordCall w) refl refl refl) ∙
-    answer-used verdictOr (λ z. Judged (verdict (z .state .letters) (z .state .tone))) (λ v. refl) (λ x u v. refl) (refusal (wordCall w)) w
+    answer-used verdictOr (λ z. Judged (verdict (z .state .letters) (z .state .tone))) (λ v. refl) (λ x v. refl) (refusal (wordCall w)) w
 
 decision-used : (w : Word) → decisionAnswer (used w) ≡ decisionAnswer w
 unfolding decisionAnswer
 decision-used w =
     ap (λ (o : Option Refusal). decisionOr o (used w)) (refusal-used w (wordCall (used w)) (wordCall w) refl refl refl) ∙
-    answer-used decisionOr (λ z. Decided (decision z)) (λ v. refl) (λ x u v. refl) (refusal (wordCall w)) w
+    answer-used decisionOr (λ z. Decided (decision z)) (λ v. refl) (λ x v. refl) (refusal (wordCall w)) w
 
 -- two records that agree in counts, marks and used places
 module _ (v w : Word) (agree : used v ≡ used w) where
   pub same-step : (k : ℕ) → step v k .answer ≡ step w k .answer
   same-step k = sym (step-used v k) ∙ ap (λ (x : Word). step x k .answer) agree ∙ step-used w k
+
+  pub same-word : (k : ℕ) → used (step v k .word) ≡ used (step w k .word)
+  same-word k = sym (next-used v k) ∙ ap (λ (x : Word). used (step x k .word)) agree ∙ next-used w k
+
+  pub same-show : (out : List ℕ) → show v out ≡ show w out
+  same-show out = sym (show-used v out) ∙ ap (λ (x : Word). show x out) agree ∙ show-used w out
 
   pub same-place : placeAnswer v ≡ placeAnswer w
   same-place = sym (place-used v) ∙ ap placeAnswer agree ∙ place-used w

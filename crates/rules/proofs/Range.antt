@@ -1,4 +1,4 @@
--- What a record in range says, condition by condition, and back.
+-- A record is in range if each condition holds, and only then.
 use mathlib.Core.Path.{_≡_}
 use mathlib.Core.Bool.{Bool, true, false, not, _||_}
 use mathlib.Core.List.{List, [], _∷_}
@@ -58,6 +58,27 @@ twice false t = t
 pub not-over : (m n : ℕ) → n ≤ m → T (not (ltb m n))
 not-over m n h = not-T (ltb m n) (λ t. omega (arith, ltb→lt m n t))
 
+pub range-in : (w : Word) → InRange w → T (not (outOfRange w))
+unfolding outOfRange
+range-in w r =
+    let counts : NoneOf (countsOver w) =
+    not-this (not-over mostKeys (w .typed) (r .typed))
+    (not-this (not-over mostKeys (w .count) (r .count))
+    (not-this (not-over mostKeys (w .acted) (r .acted))
+    (not-this (not-over mostKeys (w .undone) (r .undone))
+    (not-this (not-over mostKeys (w .appended) (r .appended)) none-left)))) in
+    let none : NoneOf (rangeFaults w) =
+    not-this (not-any counts)
+    (not-this (not-over (w .typed) (w .count) (r .fewer))
+    (not-this (twice (eqb (w .acted + w .undone + w .appended) (w .typed)) (eq→eqb (r .sum)))
+    (not-this (twice (all (isKey (w .mode)) (take (w .typed) (w .keys))) (r .keys))
+    (not-this (twice (all (letterAllowed (w .mode)) (take (w .count) (w .letters))) (r .letters .allowed))
+    (not-this (twice (allLetters shapeCarried (take (w .count) (w .letters))) (r .letters .carried))
+    (not-this (twice (allLetters noCapitalDigit (take (w .count) (w .letters))) (r .letters .digit))
+    (not-this (not-over dot (w .tone) (r .tone))
+    (not-this (twice (isMode (w .mode)) (r .mode)) none-left)))))))) in
+    not-any none
+
 said : (w : Word) → NoneOf (rangeFaults w) → NoneOf (countsOver w) → InRange w
 said w (not-this over (not-this fewer (not-this sum (not-this keys (not-this allowed (not-this carried (not-this digit (not-this tone (not-this mode none-left)))))))))
     (not-this t (not-this c (not-this a (not-this u (not-this p none-left))))) =
@@ -81,24 +102,3 @@ counted w (not-this over n) = over
 pub in-range : (w : Word) → T (not (outOfRange w)) → InRange w
 unfolding outOfRange
 in-range w t = said w (none-of (rangeFaults w) t) (none-of (countsOver w) (counted w (none-of (rangeFaults w) t)))
-
-pub range-in : (w : Word) → InRange w → T (not (outOfRange w))
-unfolding outOfRange
-range-in w r =
-    let counts : NoneOf (countsOver w) =
-    not-this (not-over mostKeys (w .typed) (r .typed))
-    (not-this (not-over mostKeys (w .count) (r .count))
-    (not-this (not-over mostKeys (w .acted) (r .acted))
-    (not-this (not-over mostKeys (w .undone) (r .undone))
-    (not-this (not-over mostKeys (w .appended) (r .appended)) none-left)))) in
-    let none : NoneOf (rangeFaults w) =
-    not-this (not-any counts)
-    (not-this (not-over (w .typed) (w .count) (r .fewer))
-    (not-this (twice (eqb (w .acted + w .undone + w .appended) (w .typed)) (eq→eqb (r .sum)))
-    (not-this (twice (all (isKey (w .mode)) (take (w .typed) (w .keys))) (r .keys))
-    (not-this (twice (all (letterAllowed (w .mode)) (take (w .count) (w .letters))) (r .letters .allowed))
-    (not-this (twice (allLetters shapeCarried (take (w .count) (w .letters))) (r .letters .carried))
-    (not-this (twice (allLetters noCapitalDigit (take (w .count) (w .letters))) (r .letters .digit))
-    (not-this (not-over dot (w .tone) (r .tone))
-    (not-this (twice (isMode (w .mode)) (r .mode)) none-left)))))))) in
-    not-any none

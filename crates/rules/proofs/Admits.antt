@@ -38,7 +38,7 @@ admits-shape (CircumflexOn b) w = admits-asked circumflex (circumflexOn b w)
 admits-shape Circumflex w = admits-asked circumflex (circumflexed w)
 admits-shape Breve w = admits-asked breve (breved w)
 admits-shape Horn w = admits-asked horn (horned w)
-admits-shape HornBreve w = admits-first (admits-asked horn (horned w)) (admits-asked breve (breved w))
+admits-shape HornBreve w = search (admits-first, admits-asked)
 
 of-change : {a : Act} {w : Letters} → Admits (change a w) → T (admitted w)
 of-change (admits t) = t

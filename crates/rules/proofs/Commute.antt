@@ -154,7 +154,7 @@ twin-shape (CircumflexOn b) c xs = twin-asked circumflex (same-circumflexOn c b 
 twin-shape Circumflex c xs = twin-asked circumflex (same-circumflexed c xs)
 twin-shape Breve c xs = twin-asked breve (same-breved c xs)
 twin-shape Horn c xs = twin-asked horn (same-horned c xs)
-twin-shape HornBreve c xs = twin-first (twin-asked horn (same-horned c xs)) (twin-asked breve (same-breved c xs))
+twin-shape HornBreve c xs = search (twin-first, twin-asked, same-horned, same-breved)
 
 -- when the stroke changes letters: a first letter d becomes đ
 data Struck : Letters → Edit → Type 0 where

@@ -151,7 +151,7 @@ good-shape (CircumflexOn b) w = good-asked circumflex (keeps-circumflexOn b w)
 good-shape Circumflex w = good-asked circumflex (keeps-circumflexed w)
 good-shape Breve w = good-asked breve (keeps-breved w)
 good-shape Horn w = good-asked horn (keeps-horned w)
-good-shape HornBreve w = good-first (good-asked horn (keeps-horned w)) (good-asked breve (keeps-breved w))
+good-shape HornBreve w = search (good-first, good-asked, keeps-horned, keeps-breved)
 
 -- a first letter d or đ makes no difference
 abbrev pub dee : ℕ → Bool → Letter

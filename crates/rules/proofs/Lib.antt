@@ -12,6 +12,7 @@ pub mod Records
 pub mod Typing
 pub mod Counts
 pub mod Admits
+pub mod TelexW
 pub mod UsedPlaces
 pub mod RecordOrders
 pub mod One

@@ -11,8 +11,20 @@ ghost use Rattle.letters.specs.Writing.{isLetter, bytesOf, written};
 
 mod vowels;
 
+use rules::ACUTE;
+use rules::BREVE;
+use rules::CAPITAL;
+use rules::CIRCUMFLEX;
+use rules::DOT;
+use rules::GRAVE;
+use rules::HOOK;
+use rules::HORN;
+use rules::NO_TONE;
+use rules::PLAIN;
 use rules::Role;
+use rules::STROKE;
 use rules::ShapeKey;
+use rules::TILDE;
 use rules::ToneKey;
 use rules::Word;
 
@@ -34,35 +46,12 @@ pub enum LetterRead {
     NoLetter,
 }
 
-// A letter is one number: its base, 256 times its shape, and 2048 more for a capital.
-const CAPITAL: u16 = 2048;
-
-const PLAIN: u8 = 0;
-
-const CIRCUMFLEX: u8 = 1;
-
-const BREVE: u8 = 2;
-
-const HORN: u8 = 3;
-
-const STROKE: u8 = 4;
-
 // đ: its number as a letter, and its code points.
 const D_STROKE: u16 = b'd' as u16 + 256 * STROKE as u16;
 
 const D_STROKE_POINT: u16 = 0x111;
 
 const CAPITAL_D_STROKE_POINT: u16 = D_STROKE_POINT - 1;
-
-const ACUTE: u8 = 1;
-
-const GRAVE: u8 = 2;
-
-const HOOK: u8 = 3;
-
-const TILDE: u8 = 4;
-
-const DOT: u8 = 5;
 
 // Shapes that a letter can carry: circumflex on a e o, breve on a, horn on o u, stroke on d; every letter is plain.
 pub fn carries(shape: u8, base: u8) -> bool
@@ -228,7 +217,7 @@ pub fn utf8(letter: u16, tone: u8) -> LetterBytes
     if row < vowels::ROWS {
         return encoded(letter, vowels::point(row, tone as usize));
     }
-    if tone != 0 {
+    if tone != NO_TONE {
         return LetterBytes::NoLetter;
     }
     if small == D_STROKE {
@@ -251,7 +240,7 @@ fn one_byte(first: u8) -> LetterRead
     if is_key(Word::TELEX, first) {
         return LetterRead::Letter {
             number: letter_of_key(first),
-            tone: 0,
+            tone: NO_TONE,
             length: 1,
         };
     }

@@ -6,15 +6,16 @@ ghost use lib.ListN.{getD};
 ghost use Rattle.rules.specs.TheWord.{letter as letterOfNumber, number};
 ghost use Rattle.letters.specs.Decoding.{found, readAs};
 ghost use Rattle.letters.specs.Rows.{rowOf, pointsOf, letterOf, cased};
-use crate::BREVE;
-use crate::CAPITAL;
 use crate::CAPITAL_D_STROKE_POINT;
-use crate::CIRCUMFLEX;
 use crate::D_STROKE;
 use crate::D_STROKE_POINT;
-use crate::HORN;
 use crate::LetterRead;
 use crate::capital_point;
+use rules::BREVE;
+use rules::CAPITAL;
+use rules::CIRCUMFLEX;
+use rules::HORN;
+use rules::NO_TONE;
 
 pub(crate) const ROWS: usize = 12;
 
@@ -194,14 +195,14 @@ pub(crate) fn find(point: u16, length: usize) -> LetterRead
     if point == D_STROKE_POINT {
         return LetterRead::Letter {
             number: D_STROKE,
-            tone: 0,
+            tone: NO_TONE,
             length: length,
         };
     }
     if point == CAPITAL_D_STROKE_POINT {
         return LetterRead::Letter {
             number: D_STROKE + CAPITAL,
-            tone: 0,
+            tone: NO_TONE,
             length: length,
         };
     }

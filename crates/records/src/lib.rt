@@ -1,12 +1,11 @@
 // Refusal 8: a record out of range. Places past its counts are not read.
+use rules::DOT;
 use rules::Word;
 ghost use mathlib.Core.Path.{_≡_};
 ghost use Rattle.rules.specs.KeyRoles.{isKey};
 ghost use Rattle.rules.specs.Refusals.{all, outOfRange};
 ghost use Rattle.letters.specs.Writing.{isLetter};
 ghost use Rattle.records.specs.Numbers.{numbersWrong};
-
-const DOT: u8 = 5;
 
 // The kept keys are allowed in the mode.
 fn keys_allowed(mode: u8, keys: &[u8]) -> bool

@@ -50,7 +50,7 @@ impl Word {
             mode: mode,
             letters: [0; 32],
             count: 0,
-            tone: 0,
+            tone: NO_TONE,
             closed: false,
             keys: [0; 32],
             typed: 0,
@@ -60,6 +60,33 @@ impl Word {
         }
     }
 }
+
+// The shapes of a letter.
+pub const PLAIN: u8 = 0;
+
+pub const CIRCUMFLEX: u8 = 1;
+
+pub const BREVE: u8 = 2;
+
+pub const HORN: u8 = 3;
+
+pub const STROKE: u8 = 4;
+
+// What a capital adds to a letter's number.
+pub const CAPITAL: u16 = 2048;
+
+// The tones of a word.
+pub const NO_TONE: u8 = 0;
+
+pub const ACUTE: u8 = 1;
+
+pub const GRAVE: u8 = 2;
+
+pub const HOOK: u8 = 3;
+
+pub const TILDE: u8 = 4;
+
+pub const DOT: u8 = 5;
 
 // What a key is for, in its mode. The three families: tone with clear, vowel shape, stroke.
 pub enum Role {

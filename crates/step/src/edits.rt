@@ -3,7 +3,12 @@
 use crate::Edit;
 use crate::Edited;
 use rules::Act;
+use rules::BREVE;
+use rules::CIRCUMFLEX;
+use rules::HORN;
+use rules::PLAIN;
 use rules::Place;
+use rules::STROKE;
 use rules::ShapeKey;
 ghost use mathlib.Core.Path.{_≡_};
 ghost use mathlib.Core.List.{map};
@@ -16,16 +21,6 @@ ghost use Rattle.step.specs.Held.{Given, Aimed, editedOf, askedIn, dee};
 ghost use Rattle.rules.specs.Letters.{horn, is};
 ghost use lib.ListN.{set, getD};
 ghost use Rattle.targets.specs.Places.{wanted};
-
-const PLAIN: u8 = 0;
-
-const CIRCUMFLEX: u8 = 1;
-
-const BREVE: u8 = 2;
-
-const HORN: u8 = 3;
-
-const STROKE: u8 = 4;
 
 // The candidate, if it is admitted; else the letters as they were.
 fn asked(letters: [u16; 32], on: [u16; 32], count: usize, kind: u8) -> Edited

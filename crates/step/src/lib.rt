@@ -1,5 +1,6 @@
 // One key typed into a word: refused, or acted, undone or appended by the rules of its role, and counted.
 use rules::Act;
+use rules::NO_TONE;
 use rules::Outcome;
 use rules::Refusal;
 use rules::Role;
@@ -19,8 +20,6 @@ ghost use Rattle.rules.specs.WhatComesBack.{step as stepOf};
 ghost use Rattle.step.specs.Held.{Ready, Edits, editedOf, withState, toned, doneOf, countedIn, didOf, refusedOf};
 
 mod edits;
-
-const NO_TONE: u8 = 0;
 
 // What a shape or stroke key does to the letters: nothing, take a mark off, or change them; and the letters then.
 pub enum Edit {

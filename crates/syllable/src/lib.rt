@@ -16,19 +16,13 @@ mod words;
 
 use nuclei::listed;
 use nuclei::some_agrees;
+use rules::ACUTE;
+use rules::CAPITAL;
+use rules::DOT;
+use rules::NO_TONE;
+use rules::PLAIN;
 use rules::Place;
 use words::*;
-
-// What a capital adds to a letter's number.
-const CAPITAL: u16 = 2048;
-
-const PLAIN: u8 = 0;
-
-const NO_TONE: u8 = 0;
-
-const ACUTE: u8 = 1;
-
-const DOT: u8 = 5;
 
 // Places within a nucleus.
 const FIRST: usize = 0;

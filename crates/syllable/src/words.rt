@@ -1,17 +1,14 @@
 // The words of document 01's tables as numbers, each named by its Telex keys: AW is ă, AA â, EE ê, OO ô, OW ơ, UW ư, DD đ.
 // A letter is one digit, twice its number without the case and 1; the first letter of a word is its lowest digit.
+use rules::BREVE;
+use rules::CIRCUMFLEX;
+use rules::HORN;
+use rules::STROKE;
+
 pub const NEXT: u64 = 4096;
 
-// A digit below this is a plain letter's.
+// A digit below this is a plain letter's; a shape adds it as many times as the shape's number says.
 pub const SHAPE: u64 = 2 * 256;
-
-const CIRCUMFLEX: u64 = SHAPE;
-
-const BREVE: u64 = 2 * SHAPE;
-
-const HORN: u64 = 3 * SHAPE;
-
-const STROKE: u64 = 4 * SHAPE;
 
 // No letters.
 pub const NONE: u64 = 0;
@@ -22,25 +19,25 @@ pub const MORE: u64 = NEXT * NEXT * NEXT;
 // Vowel letters.
 pub const A: u64 = 2 * b'a' as u64 + 1;
 
-pub const AW: u64 = A + BREVE;
+pub const AW: u64 = A + SHAPE * BREVE as u64;
 
-pub const AA: u64 = A + CIRCUMFLEX;
+pub const AA: u64 = A + SHAPE * CIRCUMFLEX as u64;
 
 pub const E: u64 = 2 * b'e' as u64 + 1;
 
-pub const EE: u64 = E + CIRCUMFLEX;
+pub const EE: u64 = E + SHAPE * CIRCUMFLEX as u64;
 
 pub const I: u64 = 2 * b'i' as u64 + 1;
 
 pub const O: u64 = 2 * b'o' as u64 + 1;
 
-pub const OO: u64 = O + CIRCUMFLEX;
+pub const OO: u64 = O + SHAPE * CIRCUMFLEX as u64;
 
-pub const OW: u64 = O + HORN;
+pub const OW: u64 = O + SHAPE * HORN as u64;
 
 pub const U: u64 = 2 * b'u' as u64 + 1;
 
-pub const UW: u64 = U + HORN;
+pub const UW: u64 = U + SHAPE * HORN as u64;
 
 pub const Y: u64 = 2 * b'y' as u64 + 1;
 
@@ -51,7 +48,7 @@ pub const C: u64 = 2 * b'c' as u64 + 1;
 
 pub const D: u64 = 2 * b'd' as u64 + 1;
 
-pub const DD: u64 = D + STROKE;
+pub const DD: u64 = D + SHAPE * STROKE as u64;
 
 pub const G: u64 = 2 * b'g' as u64 + 1;
 

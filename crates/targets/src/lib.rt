@@ -1,4 +1,5 @@
 // Where a shape key aims: places in a lent slice of letter numbers, of any length.
+use rules::CAPITAL;
 use rules::Place;
 use rules::ShapeKey;
 ghost use mathlib.Core.Path.{_≡_};
@@ -20,7 +21,7 @@ fn base(n: u16) -> u8
 fn reshaped(n: u16, shape: u8) -> u16
     ensures { λ r. ⌜ r ≡ number (shaped (shape % 8) (letter n)) ⌝ }
 {
-    n % 256 + 256 * ((shape % 8) as u16) + n / 2048 % 2 * 2048
+    n % 256 + 256 * ((shape % 8) as u16) + n / CAPITAL % 2 * CAPITAL
 }
 
 // The array with the letter at a place in another shape; as it was where there is no such place.

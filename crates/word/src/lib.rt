@@ -3,6 +3,7 @@ use rules::Decision;
 use rules::DecisionAnswer;
 use rules::PlaceAnswer;
 use rules::Refusal;
+use rules::STROKE;
 use rules::Start;
 use rules::StartAnswer;
 use rules::TypeAll;
@@ -168,5 +169,5 @@ fn starts_with_d_stroke(letters: &[u16]) -> bool
         return false;
     }
     let first = letters[0];
-    (first % 256 == b'd' as u16) & (first / 256 % 8 == 4)
+    (first % 256 == b'd' as u16) & (first / 256 % 8 == STROKE as u16)
 }

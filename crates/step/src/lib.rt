@@ -22,21 +22,21 @@ ghost use Rattle.step.specs.Held.{Ready, Edits, editedOf, withState, ton
 mod edits;
 
 // What a shape or stroke key does to the letters: nothing, take a mark off, or change them; and the letters then.
-pub enum Edit {
+enum Edit {
     Nothing,
     Off,
     Change(Act),
 }
 
-pub struct Edited {
-    pub edit: Edit,
-    pub letters: [u16; 32],
+struct Edited {
+    edit: Edit,
+    letters: [u16; 32],
 }
 
 // What a key did, and the word then, before the key is kept and counted.
-pub struct Done {
-    pub outcome: Outcome,
-    pub word: Word,
+struct Done {
+    outcome: Outcome,
+    word: Word,
 }
 
 // The key as a plain letter after the others.

@@ -66,7 +66,7 @@ fn stands(ini: u64, nuc: u64) -> bool
 }
 
 // The nucleus, in letters and shapes, is in the list, is allowed after this initial, and with this final.
-pub fn listed(ini: u64, nuc: u64, fin: u64) -> bool
+pub(crate) fn listed(ini: u64, nuc: u64, fin: u64) -> bool
     ensures { λ r. ⌜ ((w v f : Letters) → Codes ini w → Codes nuc v → Codes fin f → r ≡ listedOf w v f) ⌝ }
 {
     stands(ini, nuc) & takes(ini, nuc, fin)
@@ -162,7 +162,7 @@ fn could_be(ini: u64, nuc: u64, fin: u64, z: u64) -> bool
 }
 
 // Some listed nucleus agrees, may stand after this initial, and takes this final.
-pub fn some_agrees(ini: u64, nuc: u64, fin: u64) -> bool
+pub(crate) fn some_agrees(ini: u64, nuc: u64, fin: u64) -> bool
     ensures { λ r. ⌜ ((w v f : Letters) → Codes ini w → Codes nuc v → Codes fin f → r ≡ someAgrees w v f) ⌝ }
 {
     if nuc == NONE {

@@ -169,5 +169,5 @@ fn starts_with_d_stroke(letters: &[u16]) -> bool
         return false;
     }
     let first = letters[0];
-    (first % 256 == b'd' as u16) & (first / 256 % 8 == STROKE as u16)
+    (syllable::base(first) == b'd') & (syllable::shape(first) == STROKE)
 }

@@ -8,7 +8,8 @@ pub starts-with-d-stroke-spec : {M : Type 1} → statement M
 starts-with-d-stroke-spec =
     tie.close
     (tie.spec
-    (λ c. no-first (c .before .args .letters .now) (c .if1 .taken))
+    (λ c. no-first (c .before .before .args .letters .now) (c .if1 .taken))
     (λ c. search needs)
-    (λ c. search needs)
-    (λ c. first-is (c .before .before .args .letters .now) (c .before .if1 .left)))
+    (λ c κs. search needs)
+    (λ c κs. search needs)
+    (λ c. simp (c .before .base .ensures, c .shape .ensures) (first-is (c .before .before .before .before .before .args .letters .now) (c .before .before .before .if1 .left))))

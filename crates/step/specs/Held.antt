@@ -1,4 +1,4 @@
--- What a rule of document 01 leaves in a record: the letters of an edit, the state after a key, and the record with the key kept and counted.
+-- What a rule of document 01 leaves in a record: the letters of an edit, the state after a key, and the record with the key kept and counted. Only contracts of private functions cite what stands here.
 use mathlib.Core.Path.{_≡_}
 use mathlib.Core.Bool.{Bool, true, false}
 use mathlib.Core.List.{List, map}

@@ -26,13 +26,16 @@ fn put_verdict(w: Word) {
     let answer = word::verdict(w);
     match answer {
         VerdictAnswer::Judged(v) => put(v as usize),
-        VerdictAnswer::Refused(r) => put_refused(r.number, r.value),
+        VerdictAnswer::Refused(_) => {
+            io::write_all(STDOUT_FILENO, b"!");
+        }
     }
 }
 
 fn put_place(w: Word) {
     let answer = word::place(w);
     let PlaceAnswer::Found(place) = answer else {
+        io::write_all(STDOUT_FILENO, b"!");
         return;
     };
     let Place::At(n) = place else {
@@ -45,6 +48,7 @@ fn put_place(w: Word) {
 fn put_decision(w: Word) {
     let answer = word::decision(w);
     let DecisionAnswer::Decided(decision) = answer else {
+        io::write_all(STDOUT_FILENO, b"!\n");
         return;
     };
     match decision {
@@ -57,6 +61,7 @@ fn put_decision(w: Word) {
     }
 }
 
+// No word that was typed is refused; if one were, a `!` in its line would say so.
 fn put_word(w: Word) {
     put_verdict(w);
     io::write_all(STDOUT_FILENO, b" ");

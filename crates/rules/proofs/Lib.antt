@@ -16,3 +16,7 @@ pub mod TelexW
 pub mod UsedPlaces
 pub mod RecordOrders
 pub mod One
+pub mod Wholes
+pub mod TonePlaces
+pub mod TextFits
+pub mod Commits

@@ -1,5 +1,5 @@
 -- A record is in range if each condition holds, and only then.
-use mathlib.Core.Path.{_≡_}
+use mathlib.Core.Path.{_≡_, sym, subst}
 use mathlib.Core.Bool.{Bool, true, false, not, _||_}
 use mathlib.Core.List.{List, [], _∷_}
 use Prim.Native.Nat.{ℕ, _+_, _≤_}
@@ -102,3 +102,7 @@ counted w (not-this over n) = over
 pub in-range : (w : Word) → T (not (outOfRange w)) → InRange w
 unfolding outOfRange
 in-range w t = said w (none-of (rangeFaults w) t) (none-of (countsOver w) (counted w (none-of (rangeFaults w) t)))
+
+-- a word in range has at most 32 letters
+pub few-letters : (w : Word) → outOfRange w ≡ false → w .count ≤ mostKeys
+few-letters w e = in-range w (subst (λ (b : Bool). T (not b)) (sym e) tt) .count

@@ -17,7 +17,8 @@ use Rattle.rules.specs.declared.Place.the-variants.{At, Nowhere}
 use Rattle.syllable.specs.Parts.{partsOf}
 use Rattle.syllable.specs.declared.Parts.{Parts}
 use Rattle.syllable.proofs.Bools.{pick}
-use Rattle.syllable.proofs.Splits.{whole, nil-length}
+use Rattle.rules.proofs.Wholes.{whole}
+use Rattle.syllable.proofs.Splits.{nil-length}
 
 -- the last shaped letter of those from a place on
 abbrev pub lastFrom : ℕ → List ℕ → Option ℕ

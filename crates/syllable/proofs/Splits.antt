@@ -12,6 +12,7 @@ use borrow.Author.Tests.{eq-eqb, ne-eqb}
 use Rattle.rules.specs.Letters.{Letters, isNil}
 use Rattle.rules.specs.TakingApart.{isKind, front, frontIf, past, pastIf, before, run, joins, initialOf, nucleusOf, initial, nucleus, final, leftovers}
 use Rattle.rules.specs.TheWord.{letter}
+use Rattle.rules.proofs.Wholes.{split, halves, whole}
 use Rattle.syllable.specs.Numbers.{small}
 use Rattle.syllable.specs.Parts.{partsOf}
 use Rattle.syllable.specs.declared.Parts.{Parts}
@@ -36,31 +37,6 @@ part : (s : List ℕ) (i k : ℕ) (a b d : Letters) → a ++ (b ++ d) ≡ map le
 part s i k a b d e ei ek =
     let m : k - i ≡ length b = omega arith in
     map-take (k - i) (drop i s) ∙ ap (take (k - i)) (map-drop i s) ∙ (λ j. take (m j) (drop (ei j) (sym e j))) ∙ middle a b d
-
--- a run and what stands past it make the whole
-split : (v : Bool) (w : Letters) → front v w ++ past v w ≡ w
-split v [] = refl
-split v (x ∷ xs) = go (isKind v (x .base)) (split v xs)
-  where
-    go : (b : Bool) → front v xs ++ past v xs ≡ xs → frontIf b x (front v xs) ++ pastIf b x xs (past v xs) ≡ x ∷ xs
-    go true e = ap (λ (l : Letters). x ∷ l) e
-    go false e = refl
-
-rejoin : (b : Bool) (w v : Letters) → initialOf b w v ++ nucleusOf b v ≡ w ++ v
-rejoin false w v = refl
-rejoin true w [] = refl
-rejoin true w (x ∷ xs) = append-assoc w (x ∷ []) xs
-
-module _ (w : Letters) where
-  halves : before w ++ (run w ++ (final w ++ leftovers w)) ≡ w
-  unfolding final leftovers
-  halves =
-      ap (λ (l : Letters). before w ++ (run w ++ l)) (split false (past true (past false w))) ∙ ap (λ (l : Letters). before w ++ l) (split true (past false w)) ∙ split false w
-
-  pub whole : initial w ++ (nucleus w ++ (final w ++ leftovers w)) ≡ w
-  unfolding initial nucleus
-  whole =
-      sym (append-assoc (initial w) (nucleus w) (final w ++ leftovers w)) ∙ ap (λ (l : Letters). l ++ (final w ++ leftovers w)) (rejoin (joins (before w) (run w)) (before w) (run w)) ∙ append-assoc (before w) (run w) (final w ++ leftovers w) ∙ halves
 
 -- an answer of `apart`, and the parts that it cuts
 pub record Cut (s : List ℕ) (i n f : ℕ) : Type 0 where

@@ -24,7 +24,6 @@ use Rattle.rules.specs.declared.VerdictAnswer.the-variants.{Judged}
 use Rattle.rules.specs.declared.VerdictAnswer.the-variants.{Refused as VerdictRefused}
 use Rattle.rules.specs.declared.DecisionAnswer.the-variants.{Decided}
 use Rattle.rules.specs.declared.DecisionAnswer.the-variants.{Refused as DecisionRefused}
-use Rattle.rules.proofs.Range.{in-range}
 use Rattle.word.specs.Refusing.{refusedOf}
 
 -- the first letter of a slice of numbers
@@ -69,10 +68,6 @@ part l n = map letter (take (n - 0) (drop 0 l))
 
 is-front : (l : List ℕ) (n : ℕ) → part l n ≡ map letter (take n l)
 is-front l n = let e : n - 0 ≡ n = omega arith in ap (λ (m : ℕ). map letter (take m l)) e
-
--- a word in range has at most 32 letters
-pub few-letters : (w : Word) → outOfRange w ≡ false → w .count ≤ mostKeys
-few-letters w e = in-range w (subst (λ (b : Bool). T (not b)) (sym e) tt) .count
 
 module _ (w : Word) where
   pub place-refused : outOfRange w ≡ true → placeAnswer w ≡ PlaceRefused (record { number = 8; value = 0 })

@@ -4,7 +4,8 @@ use mathlib.Core.Bool.{true, false}
 use native.Mathlib.Omega.{arith}
 use lib.ListN.{length}
 use borrow.Author.Needs.{needs}
-use Rattle.word.proofs.Answers.{few-letters, decision-refused, reasons, decided}
+use Rattle.rules.proofs.Range.{few-letters}
+use Rattle.word.proofs.Answers.{decision-refused, reasons, decided}
 use Rattle.word.proofs.decision.Statement.{statement}
 use Rattle.word.proofs.decision.Tie as tie
 

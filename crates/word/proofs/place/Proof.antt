@@ -4,7 +4,8 @@ use native.Mathlib.Omega.{arith}
 use lib.ListN.{length}
 use borrow.Author.Needs.{needs}
 use Rattle.rules.specs.declared.PlaceAnswer.the-variants.{Found}
-use Rattle.word.proofs.Answers.{few-letters, place-refused, place-found}
+use Rattle.rules.proofs.Range.{few-letters}
+use Rattle.word.proofs.Answers.{place-refused, place-found}
 use Rattle.word.proofs.place.Statement.{statement}
 use Rattle.word.proofs.place.Tie as tie
 

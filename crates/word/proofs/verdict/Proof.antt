@@ -4,7 +4,8 @@ use native.Mathlib.Omega.{arith}
 use lib.ListN.{length}
 use borrow.Author.Needs.{needs}
 use Rattle.rules.specs.declared.VerdictAnswer.the-variants.{Judged}
-use Rattle.word.proofs.Answers.{few-letters, verdict-refused, verdict-judged}
+use Rattle.rules.proofs.Range.{few-letters}
+use Rattle.word.proofs.Answers.{verdict-refused, verdict-judged}
 use Rattle.word.proofs.verdict.Statement.{statement}
 use Rattle.word.proofs.verdict.Tie as tie
 

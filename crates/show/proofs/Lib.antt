@@ -1,0 +1,6 @@
+pub mod Puts
+pub mod Tones
+pub mod Fills
+pub mod Texts
+pub mod Answers
+pub mod One

@@ -1,0 +1,4 @@
+pub mod Answers
+pub mod Compares
+pub mod Parts
+pub mod One

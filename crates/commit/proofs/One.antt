@@ -1,0 +1,16 @@
+-- One possible result: any two results that a contract allows at the same arguments are equal; of a returned part, its bytes.
+use mathlib.Core.Path.{_≡_, sym, _∙_}
+use contract.Lifetimes.{Lfts}
+use denote.Ref.{now}
+use denote.Triple.Entry.{Args, Res}
+use denote.Triple.Clauses.{AtExit}
+use Rattle.commit.proofs.commit as commit
+use Rattle.commit.proofs.commit.Reads as commit-reads
+use Rattle.commit.proofs.answer as answer
+use Rattle.commit.proofs.answer.Reads as answer-reads
+
+pub commit-one : (κs : Lfts 1) (a : Args commit.signature κs) (r r′ : Res commit.signature κs) (e e′ : AtExit commit.ended κs) → commit-reads.Post κs a r e → commit-reads.Post κs a r′ e′ → now r ≡ now r′
+commit-one κs a r r′ e e′ p p′ = p ∙ sym p′
+
+pub answer-one : (κs : Lfts 2) (a : Args answer.signature κs) (r r′ : Res answer.signature κs) (e e′ : AtExit answer.ended κs) → answer-reads.Post κs a r e → answer-reads.Post κs a r′ e′ → r ≡ r′
+answer-one κs a r r′ e e′ p p′ = p ∙ sym p′

@@ -1,0 +1,58 @@
+-- `commit::rule` meets its contract: each answer is the row of its test, or the ruling on the word typed.
+use mathlib.Core.Path.{_≡_, sym, ap, _∙_}
+use borrow.Author.Needs.{needs}
+use Rattle.rules.specs.TheWord.{wordOf}
+use Rattle.rules.specs.Refusals.{outOfRange}
+use Rattle.rules.specs.declared.TypeAll.{TypeAll}
+use Rattle.commit.specs.Rulings.{judged}
+use Rattle.commit.proofs.Answers.{no-mode, too-many, too-long, not-typed, keys-typed, in-order, ruled}
+use Rattle.commit.proofs.rule.Statement.{statement}
+use Rattle.commit.proofs.rule.Tie as tie
+
+pub rule-spec : {M : Type 1} → statement M
+rule-spec =
+    tie.close
+    (tie.spec
+    (λ c κs. search needs)
+    (λ c. let args = c .before .before .before .before .args in c .refused .ensures ∙ no-mode (args .mode) (args .keys .now) (args .text .now) (c .before .if1 .taken))
+    (λ c κs. search needs)
+    (λ c.
+    let no = c .before .before in
+    let args = no .before .before .before .args in
+    c .refused2 .ensures ∙ too-many (args .mode) (args .keys .now) (args .text .now) (no .if1 .left) (c .before .if2 .taken))
+    (λ c κs. search needs)
+    (λ c.
+    let few = c .before .before in
+    let no = few .before in
+    let args = no .before .before .before .args in
+    c .refused3 .ensures ∙ too-long (args .mode) (args .keys .now) (args .text .now) (no .if1 .left) (few .if2 .left) (c .before .if3 .taken))
+    (λ c κs. search needs)
+    (λ c. search needs)
+    (λ c.
+    let typed-all = c .before .before .before in
+    let short = typed-all .before in
+    let few = short .before in
+    let no = few .before in
+    let args = no .before .before .before .args in
+    not-typed (args .mode) (args .keys .now) (args .text .now) (no .if1 .left) (few .if2 .left) (short .if3 .left) _
+    (sym (ap (λ (t : TypeAll). t .answer) (typed-all .type-all .ensures)) ∙ c .before .answer .given .1))
+    (λ c. search needs)
+    (λ c κs.
+    let typed-all = c .before .before in
+    let short = typed-all .before in
+    let few = short .before in
+    let no = few .before in
+    let args = no .before .before .before .args in
+    let e = typed-all .type-all .ensures in
+    let keys = keys-typed (args .mode) (args .keys .now) (args .text .now) (no .if1 .left) (few .if2 .left) (short .if3 .left) (sym (ap (λ (t : TypeAll). t .answer) e) ∙ c .enum-told .given .1) in
+    ap (λ (t : TypeAll). outOfRange (t .word)) e ∙ in-order (args .mode) (args .keys .now) (args .text .now) (no .if1 .left) (few .if2 .left) (short .if3 .left) keys)
+    (λ c.
+    let typed-all = c .before .before .before in
+    let short = typed-all .before in
+    let few = short .before in
+    let no = few .before in
+    let args = no .before .before .before .args in
+    let e = typed-all .type-all .ensures in
+    let keys = keys-typed (args .mode) (args .keys .now) (args .text .now) (no .if1 .left) (few .if2 .left) (short .if3 .left) (sym (ap (λ (t : TypeAll). t .answer) e) ∙ c .before .enum-told .given .1) in
+    c .judge .ensures ∙ ap (λ (t : TypeAll). judged (wordOf (t .word)) (args .text .now)) e ∙
+    ruled (args .mode) (args .keys .now) (args .text .now) (no .if1 .left) (few .if2 .left) (short .if3 .left) keys))

@@ -1,0 +1,87 @@
+-- Demand 3, first half: `FirstHalf` of specs/TwoOrders.antt, by the law on records and the contracts.
+use mathlib.Core.Path.{_≡_, refl, sym, ap, _∙_}
+use mathlib.Core.Bool.{Bool, true, false, not}
+use mathlib.Core.List.{List}
+use Prim.Native.Nat.{ℕ}
+use lib.Dec.{T}
+use Rattle.rules.specs.TheWord.{wordOf}
+use Rattle.rules.specs.KeyRoles.{role}
+use Rattle.rules.specs.Decision.{keeps, decision}
+use Rattle.rules.specs.Refusals.{outOfRange}
+use Rattle.rules.specs.WhatComesBack.{Written, step}
+use Rattle.rules.specs.declared.Word.{Word}
+use Rattle.rules.specs.declared.Role.{Role}
+use Rattle.rules.specs.declared.Role.the-variants.{ToneRole, ShapeRole, StrokeRole, NoRole}
+use Rattle.rules.specs.declared.Step.{Step}
+use Rattle.rules.proofs.Commute.{Differ}
+use Rattle.rules.proofs.StaysInRange.{Whole, step-in-range}
+use Rattle.rules.proofs.Records.{withArrays}
+use Rattle.rules.proofs.RecordOrders.{record-orders}
+use Rattle.promises.specs.Contracts.{stepped, shown-answer, shown-output, placed, judged, decided}
+use Rattle.promises.specs.TwoOrders.{differ, OpenWithRoom, BothOrders, FirstHalf}
+use Rattle.promises.proofs.Alike.{same-text, same-place, same-verdict, same-decision}
+
+is-false : (b : Bool) → T (not b) → b ≡ false
+is-false true t = absurd t
+is-false false t = refl
+
+families : (r q : Role) → T (differ r q) → Differ r q
+families (ToneRole t) (ToneRole u) d = absurd d
+families (ToneRole t) (ShapeRole h) d = Differ.tone-shape
+families (ToneRole t) StrokeRole d = Differ.tone-stroke
+families (ToneRole t) NoRole d = absurd d
+families (ShapeRole h) (ToneRole t) d = Differ.swapped Differ.tone-shape
+families (ShapeRole h) (ShapeRole i) d = absurd d
+families (ShapeRole h) StrokeRole d = Differ.shape-stroke
+families (ShapeRole h) NoRole d = absurd d
+families StrokeRole (ToneRole t) d = Differ.swapped Differ.tone-stroke
+families StrokeRole (ShapeRole h) d = Differ.swapped Differ.shape-stroke
+families StrokeRole StrokeRole d = absurd d
+families StrokeRole NoRole d = absurd d
+families NoRole (ToneRole t) d = absurd d
+families NoRole (ShapeRole h) d = absurd d
+families NoRole StrokeRole d = absurd d
+families NoRole NoRole d = absurd d
+
+whole : {w : Word} → OpenWithRoom w → Whole w
+whole o = record { letters = o .letters; keys = o .keys }
+
+in-range-after : (w : Word) → OpenWithRoom w → (x y : ℕ) → outOfRange (step (step w x .word) y .word) ≡ false
+in-range-after w o x y =
+    let (r, v) = step-in-range w x (whole o) (o .range) in
+    is-false (outOfRange (step (step w x .word) y .word)) (step-in-range (step w x .word) y v r .0)
+
+-- the kept keys have no part in the decision
+decided-alike : (z : Word) (ks : List ℕ) → decision (wordOf (withArrays z (z .letters) ks)) ≡ decision (wordOf z)
+unfolding keeps
+decided-alike z ks = refl
+
+pub first-half : FirstHalf
+first-half w k m a b wk wm km mk o differing k-typed k-acted m-typed m-acted m-after k-after =
+    let e = stepped k-typed in
+    let f = stepped m-typed in
+    let x : km ≡ step (step w k .word) m = stepped m-after ∙ ap (λ (s : Step). step (s .word) m) e in
+    let y : mk ≡ step (step w m .word) k = stepped k-after ∙ ap (λ (s : Step). step (s .word) k) f in
+    let same = record-orders w (whole o) (o .range) (o .room) k m (o .open-word) (families (role (w .mode) k) (role (w .mode) m) differing)
+    (sym (ap (λ (s : Step). s .answer) e) ∙ k-acted) (sym (ap (λ (s : Step). s .answer) f) ∙ m-acted) in
+    let keys = ap (λ (s : Step). s .word .keys) x ∙ ap (λ (z : Word). z .keys) (same .equal) in
+    let words : km .word ≡ withArrays (mk .word) (mk .word .letters) (km .word .keys) =
+    ap (λ (s : Step). s .word) x ∙ same .equal ∙ (λ i. withArrays (sym y i .word) (sym y i .word .letters) (sym keys i)) in
+    let km-range : outOfRange (km .word) ≡ false = ap (λ (s : Step). outOfRange (s .word)) x ∙ in-range-after w o k m in
+    let mk-range : outOfRange (mk .word) ≡ false = ap (λ (s : Step). outOfRange (s .word)) y ∙ in-range-after w o m k in
+    let states = ap (λ (z : Word). wordOf z .state) words in
+    record {
+      m-acts = ap (λ (s : Step). s .answer) x ∙ same .second-acts;
+      k-acts = ap (λ (s : Step). s .answer) y ∙ same .first-acts;
+      words = words;
+      k-then-m = keys;
+      m-then-k = ap (λ (s : Step). s .word .keys) y ∙ same .keys;
+      text = λ p q. (
+        shown-answer p ∙ ap (λ (z : Written). z .answer) (same-text (km .word) (mk .word) km-range mk-range states _) ∙ sym (shown-answer q),
+        shown-output p ∙ ap (λ (z : Written). z .output) (same-text (km .word) (mk .word) km-range mk-range states _) ∙ sym (shown-output q),
+      );
+      place = λ p q. placed p ∙ same-place (km .word) (mk .word) km-range mk-range states ∙ sym (placed q);
+      verdict = λ p q. judged p ∙ same-verdict (km .word) (mk .word) km-range mk-range states ∙ sym (judged q);
+      decision = λ p q.
+          decided p ∙ same-decision (km .word) (mk .word) km-range mk-range states (ap (λ (z : Word). decision (wordOf z)) words ∙ decided-alike (mk .word) (km .word .keys)) ∙ sym (decided q);
+    }

@@ -1,0 +1,1 @@
+// The demands, held to the entries' own contracts: laws only, in proofs/.

@@ -11,7 +11,7 @@ use Rattle.rules.specs.CodePoints.{sign}
 use Rattle.rules.specs.Speller.{Front, noLetter, aLetter}
 use Rattle.letters.specs.declared.LetterRead.the-variants.{Letter, NoLetter}
 use Rattle.letters.specs.Decoding.{found, followsOn, Follows, oneByte, leastLead, InTwo, pointOfTwo, twoBytes, leastPoint, InThree, pointOfThree, threeBytes, readAs}
-use Rattle.letters.proofs.Bools.{first, second}
+use Rattle.keys.proofs.Bools.{first, second}
 
 abbrev only : Front → Bool → Front
 only f b = elim b [ true ↦ f | false ↦ noLetter ]

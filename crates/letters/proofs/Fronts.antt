@@ -10,7 +10,7 @@ use Rattle.rules.specs.Speller.{Front, noLetter, aLetter}
 use Rattle.letters.specs.Alphabet.{someSign, everySign, sameSign, inAlphabet}
 use Rattle.letters.specs.Rows.{table, letterOf}
 use Rattle.letters.specs.Decoding.{found, decoded}
-use Rattle.letters.proofs.Bools.{same-bool}
+use Rattle.keys.proofs.Bools.{same-bool}
 
 -- signs that the test cannot tell apart are equal
 pub sign-eq : (s z : Sign) → T (sameSign s z) → s ≡ z

@@ -1,7 +1,4 @@
-pub mod Bools
-pub mod Arms
 pub mod Tables
-pub mod Roles
 pub mod Points
 pub mod Writes
 pub mod Finds

@@ -5,12 +5,6 @@ use denote.Triple.Entry.{Args, Res}
 use denote.Triple.Clauses.{AtExit}
 use Rattle.letters.proofs.carries as carries
 use Rattle.letters.proofs.carries.Reads as carries-reads
-use Rattle.letters.proofs.is_key as is-key
-use Rattle.letters.proofs.is_key.Reads as is-key-reads
-use Rattle.letters.proofs.letter_of_key as letter-of-key
-use Rattle.letters.proofs.letter_of_key.Reads as letter-of-key-reads
-use Rattle.letters.proofs.role as role
-use Rattle.letters.proofs.role.Reads as role-reads
 use Rattle.letters.proofs.is_letter as is-letter
 use Rattle.letters.proofs.is_letter.Reads as is-letter-reads
 use Rattle.letters.proofs.utf8 as utf8
@@ -21,18 +15,6 @@ use Rattle.letters.proofs.read.Reads as read-reads
 pub carries-one : (κs : Lfts 0) (a : Args carries.signature κs) (r r′ : Res carries.signature κs) (e e′ : AtExit carries.ended κs)
     → carries-reads.Post κs a r e → carries-reads.Post κs a r′ e′ → r ≡ r′
 carries-one κs a r r′ e e′ p p′ = p ∙ sym p′
-
-pub is-key-one : (κs : Lfts 0) (a : Args is-key.signature κs) (r r′ : Res is-key.signature κs) (e e′ : AtExit is-key.ended κs)
-    → is-key-reads.Post κs a r e → is-key-reads.Post κs a r′ e′ → r ≡ r′
-is-key-one κs a r r′ e e′ p p′ = p ∙ sym p′
-
-pub letter-of-key-one : (κs : Lfts 0) (a : Args letter-of-key.signature κs) (r r′ : Res letter-of-key.signature κs) (e e′ : AtExit letter-of-key.ended κs)
-    → letter-of-key-reads.Post κs a r e → letter-of-key-reads.Post κs a r′ e′ → r ≡ r′
-letter-of-key-one κs a r r′ e e′ p p′ = p ∙ sym p′
-
-pub role-one : (κs : Lfts 0) (a : Args role.signature κs) (r r′ : Res role.signature κs) (e e′ : AtExit role.ended κs)
-    → role-reads.Post κs a r e → role-reads.Post κs a r′ e′ → r ≡ r′
-role-one κs a r r′ e e′ p p′ = p ∙ sym p′
 
 pub is-letter-one : (κs : Lfts 0) (a : Args is-letter.signature κs) (r r′ : Res is-letter.signature κs) (e e′ : AtExit is-letter.ended κs)
     → is-letter-reads.Post κs a r e → is-letter-reads.Post κs a r′ e′ → r ≡ r′

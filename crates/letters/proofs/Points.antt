@@ -16,8 +16,8 @@ use Rattle.rules.specs.KeyRoles.{isSmall, isDigit}
 use Rattle.rules.specs.CodePoints.{Vowel, vowels, Sign, smallPoint, capitalPoint, point}
 use Rattle.letters.specs.Alphabet.{inAlphabet}
 use Rattle.letters.specs.Rows.{table, rowIn, rowOf, pointsIn, pointsOf, letterOf, signOf}
-use Rattle.letters.proofs.Bools.{either, same-bool}
-use Rattle.letters.proofs.Arms.{NoneOf}
+use Rattle.keys.proofs.Bools.{either, same-bool}
+use Rattle.keys.proofs.Arms.{NoneOf}
 use Rattle.letters.proofs.Tables.{each, entry, eachBelow, below}
 
 -- The k-th entry is the code point of its row and tone; it is that letter's of the alphabet, and so is its capital's.

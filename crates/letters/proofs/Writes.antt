@@ -17,7 +17,7 @@ use Rattle.rules.specs.Refusals.{noCapitalDigit}
 use Rattle.letters.specs.declared.LetterBytes.the-variants.{One, Two, Three, NoLetter}
 use Rattle.letters.specs.Rows.{rowIn, rowOf, pointsIn, pointsOf}
 use Rattle.letters.specs.Writing.{isLetter, toneStands, bytesOf, written}
-use Rattle.letters.proofs.Bools.{first}
+use Rattle.keys.proofs.Bools.{first}
 use Rattle.letters.proofs.Points.{Rowed, rowed-at, small-number, small-row, in-row, in-no-row}
 
 -- UTF-8 of a code point, by its length

@@ -1,9 +1,8 @@
-// The alphabet in code: which shape a base carries, the role of a key, the bytes of a letter, and the letter that stands at a place of a text.
+// The alphabet in code: which shape a base carries, the bytes of a letter, and the letter that stands at a place of a text.
 ghost use mathlib.Core.Path.{_≡_};
 ghost use Prim.Native.Nat.{_<_, _≤_};
 ghost use Rattle.rules.specs.Letters.{carries as carriesShape};
-ghost use Rattle.rules.specs.TheWord.{letter as letterOfNumber, number};
-ghost use Rattle.rules.specs.KeyRoles.{isSmall, isCapital, isDigit, isKey, lower as lowerOf, letterOfKey, roleIn, telexRoles, vniRoles, role as roleOf};
+ghost use Rattle.rules.specs.TheWord.{letter as letterOfNumber};
 ghost use Rattle.rules.specs.CodePoints.{capitalPoint, inCase, utf8 as utf8Of};
 ghost use Rattle.letters.specs.Decoding.{followsOn, oneByte, InTwo, pointOfTwo, twoBytes, InThree, pointOfThree, threeBytes, readAs};
 ghost use Rattle.letters.specs.Reading.{readAt};
@@ -11,21 +10,14 @@ ghost use Rattle.letters.specs.Writing.{isLetter, bytesOf, written};
 
 mod vowels;
 
-use rules::ACUTE;
 use rules::BREVE;
 use rules::CAPITAL;
 use rules::CIRCUMFLEX;
 use rules::DOT;
-use rules::GRAVE;
-use rules::HOOK;
 use rules::HORN;
 use rules::NO_TONE;
 use rules::PLAIN;
-use rules::Role;
 use rules::STROKE;
-use rules::ShapeKey;
-use rules::TILDE;
-use rules::ToneKey;
 use rules::Word;
 
 // The UTF-8 bytes of a letter.
@@ -64,104 +56,14 @@ pub fn carries(shape: u8, base: u8) -> bool
                     | ((shape == STROKE) & (base == b'd')))))
 }
 
-fn is_small(key: u8) -> bool
-    ensures { λ r. ⌜ r ≡ isSmall key ⌝ }
-{
-    (b'a' <= key) & (key <= b'z')
-}
-
-fn is_capital(key: u8) -> bool
-    ensures { λ r. ⌜ r ≡ isCapital key ⌝ }
-{
-    (b'A' <= key) & (key <= b'Z')
-}
-
-fn is_digit(key: u8) -> bool
-    ensures { λ r. ⌜ r ≡ isDigit key ⌝ }
-{
-    (b'0' <= key) & (key <= b'9')
-}
-
-// Keys: a letter A-Z, a-z, in VNI also 0-9.
-pub fn is_key(mode: u8, key: u8) -> bool
-    ensures { λ r. ⌜ r ≡ isKey mode key ⌝ }
-{
-    is_small(key) | (is_capital(key) | ((mode == Word::VNI) & is_digit(key)))
-}
-
-fn lower(key: u8) -> u8
-    ensures { λ r. ⌜ r ≡ lowerOf key ⌝ }
-{
-    if is_capital(key) { key + 32 } else { key }
-}
-
-// A key appended is a plain letter in its own case.
-pub fn letter_of_key(key: u8) -> u16
-    ensures { λ r. ⌜ r ≡ number (letterOfKey key) ⌝ }
-{
-    if is_capital(key) {
-        (key as u16) + 32 + CAPITAL
-    } else {
-        key as u16
-    }
-}
-
-fn telex_role(key: u8) -> Role
-    ensures { λ r. ⌜ r ≡ roleIn telexRoles key ⌝ }
-{
-    match key {
-        b's' => Role::ToneRole(ToneKey::SetTone(ACUTE)),
-        b'f' => Role::ToneRole(ToneKey::SetTone(GRAVE)),
-        b'r' => Role::ToneRole(ToneKey::SetTone(HOOK)),
-        b'x' => Role::ToneRole(ToneKey::SetTone(TILDE)),
-        b'j' => Role::ToneRole(ToneKey::SetTone(DOT)),
-        b'z' => Role::ToneRole(ToneKey::ClearTone),
-        b'a' => Role::ShapeRole(ShapeKey::CircumflexOn(b'a')),
-        b'e' => Role::ShapeRole(ShapeKey::CircumflexOn(b'e')),
-        b'o' => Role::ShapeRole(ShapeKey::CircumflexOn(b'o')),
-        b'w' => Role::ShapeRole(ShapeKey::HornBreve),
-        b'd' => Role::StrokeRole,
-        _ => Role::NoRole,
-    }
-}
-
-fn vni_role(key: u8) -> Role
-    ensures { λ r. ⌜ r ≡ roleIn vniRoles key ⌝ }
-{
-    match key {
-        b'1' => Role::ToneRole(ToneKey::SetTone(ACUTE)),
-        b'2' => Role::ToneRole(ToneKey::SetTone(GRAVE)),
-        b'3' => Role::ToneRole(ToneKey::SetTone(HOOK)),
-        b'4' => Role::ToneRole(ToneKey::SetTone(TILDE)),
-        b'5' => Role::ToneRole(ToneKey::SetTone(DOT)),
-        b'0' => Role::ToneRole(ToneKey::ClearTone),
-        b'6' => Role::ShapeRole(ShapeKey::Circumflex),
-        b'7' => Role::ShapeRole(ShapeKey::Horn),
-        b'8' => Role::ShapeRole(ShapeKey::Breve),
-        b'9' => Role::StrokeRole,
-        _ => Role::NoRole,
-    }
-}
-
-// What a key is for in a mode; upper case acts as lower, and a mode that does not exist has no role.
-pub fn role(mode: u8, key: u8) -> Role
-    ensures { λ r. ⌜ r ≡ roleOf mode key ⌝ }
-{
-    match mode {
-        Word::TELEX => telex_role(lower(key)),
-        Word::VNI => vni_role(lower(key)),
-        _ => Role::NoRole,
-    }
-}
-
 // A number that is a letter which a word of the mode can hold.
 pub fn is_letter(mode: u8, letter: u16) -> bool
     ensures { λ r. ⌜ r ≡ isLetter mode letter ⌝ }
 {
     let base = (letter % 256) as u8;
     let shape = (letter / 256 % 8) as u8;
-    let digit = is_digit(base);
-    ((letter < 2 * CAPITAL) & (is_small(base) | ((mode == Word::VNI) & digit)))
+    let digit = keys::is_digit(base);
+    ((letter < 2 * CAPITAL) & (keys::is_small(base) | ((mode == Word::VNI) & digit)))
         & (carries(shape, base) & !(digit & (letter / CAPITAL % 2 == 1)))
 }
 
@@ -237,9 +139,9 @@ fn follows(byte: u8) -> bool
 fn one_byte(first: u8) -> LetterRead
     ensures { λ r. ⌜ r ≡ readAs 1 (oneByte first) ⌝ }
 {
-    if is_key(Word::TELEX, first) {
+    if keys::is_key(Word::TELEX, first) {
         return LetterRead::Letter {
-            number: letter_of_key(first),
+            number: keys::letter_of_key(first),
             tone: NO_TONE,
             length: 1,
         };

@@ -13,7 +13,7 @@ fn keys_allowed(mode: u8, keys: &[u8]) -> bool
 {
     let mut i = 0;
     while i < keys.len() {
-        if !letters::is_key(mode, keys[i]) {
+        if !keys::is_key(mode, keys[i]) {
             return false;
         }
         i += 1;

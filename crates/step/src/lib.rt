@@ -46,7 +46,7 @@ fn append(w: Word, key: u8) -> Word
 {
     let n = w.count as usize;
     let mut next = w;
-    next.letters[n] = letters::letter_of_key(key);
+    next.letters[n] = keys::letter_of_key(key);
     next.count = w.count + 1;
     next
 }
@@ -177,7 +177,7 @@ fn key_does(w: Word, key: u8) -> Done
     }
     let letters = w.letters;
     let count = w.count as usize;
-    let role = letters::role(w.mode, key);
+    let role = keys::role(w.mode, key);
     match role {
         Role::ToneRole(tone) => tone_key(w, key, tone),
         Role::ShapeRole(shape) => edit_does(w, key, edits::shape_edit(letters, count, shape)),
@@ -225,7 +225,7 @@ pub fn step(w: Word, key: u8) -> Step
     if Word::KEYS <= count {
         return refused(w, 2, Word::KEYS);
     }
-    if !letters::is_key(w.mode, key) {
+    if !keys::is_key(w.mode, key) {
         return refused(w, 3, count);
     }
     typed(w, key)

@@ -53,7 +53,7 @@ fn allowed_before(mode: u8, keys: &[u8]) -> usize
 {
     let mut i = 0;
     while i < keys.len() {
-        if !letters::is_key(mode, keys[i]) {
+        if !keys::is_key(mode, keys[i]) {
             return i;
         }
         i += 1;

@@ -1,9 +1,9 @@
--- `letters::telex_role` meets its contract: each arm is its row of the table, and the last is for the keys of no row.
+-- `keys::telex_role` meets its contract: each arm is its row of the table, and the last is for the keys of no row.
 use Rattle.rules.specs.KeyRoles.{telexRoles}
-use Rattle.letters.proofs.Arms.{none-of}
-use Rattle.letters.proofs.Roles.{keys, no-role}
-use Rattle.letters.proofs.telex_role.Statement.{statement}
-use Rattle.letters.proofs.telex_role.Tie as tie
+use Rattle.keys.proofs.Arms.{none-of}
+use Rattle.keys.proofs.Roles.{keys, no-role}
+use Rattle.keys.proofs.telex_role.Statement.{statement}
+use Rattle.keys.proofs.telex_role.Tie as tie
 
 pub telex-role-spec : {M : Type 1} → statement M
 telex-role-spec =

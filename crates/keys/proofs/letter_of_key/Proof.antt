@@ -1,8 +1,8 @@
--- `letters::letter_of_key` meets its contract: a capital is the small letter's number and 2048 more.
+-- `keys::letter_of_key` meets its contract: a capital is the small letter's number and 2048 more.
 use native.Mathlib.Omega.{arith}
 use borrow.Author.Needs.{needs}
-use Rattle.letters.proofs.letter_of_key.Statement.{statement}
-use Rattle.letters.proofs.letter_of_key.Tie as tie
+use Rattle.keys.proofs.letter_of_key.Statement.{statement}
+use Rattle.keys.proofs.letter_of_key.Tie as tie
 
 pub letter-of-key-spec : {M : Type 1} → statement M
 letter-of-key-spec =

@@ -1,10 +1,10 @@
--- `letters::role` meets its contract: the mode picks the table.
+-- `keys::role` meets its contract: the mode picks the table.
 use mathlib.Core.Path.{_∙_, ap}
 use borrow.Author.Needs.{needs}
 use Rattle.rules.specs.KeyRoles.{roleIn, telexRoles, vniRoles}
-use Rattle.letters.proofs.Roles.{no-mode}
-use Rattle.letters.proofs.role.Statement.{statement}
-use Rattle.letters.proofs.role.Tie as tie
+use Rattle.keys.proofs.Roles.{no-mode}
+use Rattle.keys.proofs.role.Statement.{statement}
+use Rattle.keys.proofs.role.Tie as tie
 
 pub role-spec : {M : Type 1} → statement M
 role-spec =

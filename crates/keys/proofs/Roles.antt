@@ -10,8 +10,8 @@ use Rattle.rules.specs.Letters.{telex, vni}
 use Rattle.rules.specs.KeyRoles.{isCapital, roleIn, role}
 use Rattle.rules.specs.declared.Role.{Role}
 use Rattle.rules.specs.declared.Role.the-variants.{NoRole}
-use Rattle.letters.proofs.Bools.{second}
-use Rattle.letters.proofs.Arms.{NoneOf}
+use Rattle.keys.proofs.Bools.{second}
+use Rattle.keys.proofs.Arms.{NoneOf}
 
 -- the keys of a table of roles
 abbrev pub keys : List (ℕ × Role) → List ℕ

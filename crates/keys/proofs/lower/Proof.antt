@@ -1,10 +1,10 @@
--- `letters::lower` meets its contract: a capital's small letter is a byte.
+-- `keys::lower` meets its contract: a capital's small letter is a byte.
 use mathlib.Core.Path.{_∙_, sym}
 use native.Mathlib.Omega.{arith}
 use borrow.Author.Needs.{needs}
-use Rattle.letters.proofs.Roles.{capital-below}
-use Rattle.letters.proofs.lower.Statement.{statement}
-use Rattle.letters.proofs.lower.Tie as tie
+use Rattle.keys.proofs.Roles.{capital-below}
+use Rattle.keys.proofs.lower.Statement.{statement}
+use Rattle.keys.proofs.lower.Tie as tie
 
 pub lower-spec : {M : Type 1} → statement M
 lower-spec =

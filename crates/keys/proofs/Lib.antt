@@ -1,0 +1,4 @@
+pub mod Bools
+pub mod Arms
+pub mod Roles
+pub mod One

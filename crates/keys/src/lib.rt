@@ -1,0 +1,104 @@
+// The keys: which bytes are keys in a mode, what a key is for, and the letter that it is when it is appended.
+ghost use mathlib.Core.Path.{_≡_};
+ghost use Rattle.rules.specs.TheWord.{number};
+ghost use Rattle.rules.specs.KeyRoles.{isSmall, isCapital, isDigit, isKey, lower as lowerOf, letterOfKey, roleIn, telexRoles, vniRoles, role as roleOf};
+use rules::ACUTE;
+use rules::CAPITAL;
+use rules::DOT;
+use rules::GRAVE;
+use rules::HOOK;
+use rules::Role;
+use rules::ShapeKey;
+use rules::TILDE;
+use rules::ToneKey;
+use rules::Word;
+
+pub fn is_small(key: u8) -> bool
+    ensures { λ r. ⌜ r ≡ isSmall key ⌝ }
+{
+    (b'a' <= key) & (key <= b'z')
+}
+
+fn is_capital(key: u8) -> bool
+    ensures { λ r. ⌜ r ≡ isCapital key ⌝ }
+{
+    (b'A' <= key) & (key <= b'Z')
+}
+
+pub fn is_digit(key: u8) -> bool
+    ensures { λ r. ⌜ r ≡ isDigit key ⌝ }
+{
+    (b'0' <= key) & (key <= b'9')
+}
+
+// Keys: a letter A-Z, a-z, in VNI also 0-9.
+pub fn is_key(mode: u8, key: u8) -> bool
+    ensures { λ r. ⌜ r ≡ isKey mode key ⌝ }
+{
+    is_small(key) | (is_capital(key) | ((mode == Word::VNI) & is_digit(key)))
+}
+
+fn lower(key: u8) -> u8
+    ensures { λ r. ⌜ r ≡ lowerOf key ⌝ }
+{
+    if is_capital(key) { key + 32 } else { key }
+}
+
+// A key appended is a plain letter in its own case.
+pub fn letter_of_key(key: u8) -> u16
+    ensures { λ r. ⌜ r ≡ number (letterOfKey key) ⌝ }
+{
+    if is_capital(key) {
+        (key as u16) + 32 + CAPITAL
+    } else {
+        key as u16
+    }
+}
+
+fn telex_role(key: u8) -> Role
+    ensures { λ r. ⌜ r ≡ roleIn telexRoles key ⌝ }
+{
+    match key {
+        b's' => Role::ToneRole(ToneKey::SetTone(ACUTE)),
+        b'f' => Role::ToneRole(ToneKey::SetTone(GRAVE)),
+        b'r' => Role::ToneRole(ToneKey::SetTone(HOOK)),
+        b'x' => Role::ToneRole(ToneKey::SetTone(TILDE)),
+        b'j' => Role::ToneRole(ToneKey::SetTone(DOT)),
+        b'z' => Role::ToneRole(ToneKey::ClearTone),
+        b'a' => Role::ShapeRole(ShapeKey::CircumflexOn(b'a')),
+        b'e' => Role::ShapeRole(ShapeKey::CircumflexOn(b'e')),
+        b'o' => Role::ShapeRole(ShapeKey::CircumflexOn(b'o')),
+        b'w' => Role::ShapeRole(ShapeKey::HornBreve),
+        b'd' => Role::StrokeRole,
+        _ => Role::NoRole,
+    }
+}
+
+fn vni_role(key: u8) -> Role
+    ensures { λ r. ⌜ r ≡ roleIn vniRoles key ⌝ }
+{
+    match key {
+        b'1' => Role::ToneRole(ToneKey::SetTone(ACUTE)),
+        b'2' => Role::ToneRole(ToneKey::SetTone(GRAVE)),
+        b'3' => Role::ToneRole(ToneKey::SetTone(HOOK)),
+        b'4' => Role::ToneRole(ToneKey::SetTone(TILDE)),
+        b'5' => Role::ToneRole(ToneKey::SetTone(DOT)),
+        b'0' => Role::ToneRole(ToneKey::ClearTone),
+        b'6' => Role::ShapeRole(ShapeKey::Circumflex),
+        b'7' => Role::ShapeRole(ShapeKey::Horn),
+        b'8' => Role::ShapeRole(ShapeKey::Breve),
+        b'9' => Role::StrokeRole,
+        _ => Role::NoRole,
+    }
+}
+
+// What a key is for in a mode; upper case acts as lower, and a mode that does not exist has no role.
+pub fn role(mode: u8, key: u8) -> Role
+    ensures { λ r. ⌜ r ≡ roleOf mode key ⌝ }
+{
+    match mode {
+        Word::TELEX => telex_role(lower(key)),
+        Word::VNI => vni_role(lower(key)),
+        _ => Role::NoRole,
+    }
+}

@@ -1,8 +1,9 @@
 -- Two records in range that hold the same letters, tone, mark and counts show the same text and get the same place, verdict and decision.
-use mathlib.Core.Path.{_≡_, sym, ap, _∙_}
-use mathlib.Core.Bool.{false}
+use mathlib.Core.Path.{_≡_, refl, sym, ap, _∙_}
+use mathlib.Core.Bool.{Bool, true, false, not}
 use mathlib.Core.List.{List}
 use Prim.Native.Nat.{ℕ}
+use lib.Dec.{T}
 use Rattle.rules.specs.TheWord.{State, Typed, wordOf}
 use Rattle.rules.specs.TakingApart.{verdict}
 use Rattle.rules.specs.TonePlace.{tonePlace}
@@ -16,13 +17,20 @@ use Rattle.rules.specs.declared.VerdictAnswer.the-variants.{Judged}
 use Rattle.rules.specs.declared.DecisionAnswer.the-variants.{Decided}
 use Rattle.output.specs.Front.{put}
 
+pub is-false : (b : Bool) → T (not b) → b ≡ false
+is-false true t = absurd t
+is-false false t = refl
+
 -- a record in range: what each entry answers
 module _ (w : Word) (range : outOfRange w ≡ false) where
-  pub shows : (out : List ℕ) → show w out ≡ put (shown (wordOf w .state)) out
+  shows : (out : List ℕ) → show w out ≡ put (shown (wordOf w .state)) out
   unfolding show put refusal
   shows out = rw range
 
-  pub stands : placeAnswer w ≡ Found (tonePlace (wordOf w .state .letters) (wordOf w .state .tone))
+  pub shows-state : (s : State) → wordOf w .state ≡ s → (out : List ℕ) → show w out ≡ put (shown s) out
+  shows-state s e out = shows out ∙ ap (λ (z : State). put (shown z) out) e
+
+  stands : placeAnswer w ≡ Found (tonePlace (wordOf w .state .letters) (wordOf w .state .tone))
   unfolding placeAnswer refusal
   stands = rw range
 

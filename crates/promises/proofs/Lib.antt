@@ -1,3 +1,4 @@
 pub mod Alike
 pub mod TwoOrders
 pub mod EachKey
+pub mod EachSyllable

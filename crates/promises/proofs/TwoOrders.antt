@@ -19,11 +19,7 @@ use Rattle.rules.proofs.Records.{withArrays}
 use Rattle.rules.proofs.RecordOrders.{record-orders}
 use Rattle.promises.specs.Contracts.{stepped, shown-answer, shown-output, placed, judged, decided}
 use Rattle.promises.specs.TwoOrders.{differ, OpenWithRoom, BothOrders, FirstHalf}
-use Rattle.promises.proofs.Alike.{same-text, same-place, same-verdict, same-decision}
-
-is-false : (b : Bool) → T (not b) → b ≡ false
-is-false true t = absurd t
-is-false false t = refl
+use Rattle.promises.proofs.Alike.{is-false, same-text, same-place, same-verdict, same-decision}
 
 families : (r q : Role) → T (differ r q) → Differ r q
 families (ToneRole t) (ToneRole u) d = absurd d

@@ -1,3 +1,4 @@
 pub mod Contracts
 pub mod TwoOrders
 pub mod EachKey
+pub mod EachSyllable

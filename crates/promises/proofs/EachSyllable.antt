@@ -1,0 +1,49 @@
+-- Demand 3, second half: `SecondHalf` of specs/EachSyllable.antt, by the law on each valid syllable and the contracts.
+use mathlib.Core.Path.{_≡_, refl, sym, ap, _∙_}
+use mathlib.Core.Bool.{Bool, true, false, not}
+use mathlib.Core.List.{List, _++_}
+use Prim.Native.Nat.{ℕ, _≤_}
+use native.Mathlib.Omega.{arith}
+use lib.Dec.{T}
+use lib.ListN.{length}
+use Rattle.rules.specs.Letters.{Letters}
+use Rattle.rules.specs.TheWord.{Typed, newWord, wordOf, holding}
+use Rattle.rules.specs.TakingApart.{verdict}
+use Rattle.rules.specs.Decision.{decision}
+use Rattle.rules.specs.Refusals.{isMode, outOfRange}
+use Rattle.rules.specs.WhatComesBack.{typed, Written}
+use Rattle.rules.specs.declared.Word.{Word}
+use Rattle.rules.specs.declared.TypeAll.{TypeAll}
+use Rattle.rules.specs.declared.VerdictAnswer.the-variants.{Judged}
+use Rattle.rules.specs.declared.DecisionAnswer.the-variants.{Decided}
+use Rattle.rules.specs.declared.Decision.{Decision}
+use Rattle.rules.proofs.Records.{word-held}
+use Rattle.rules.proofs.Typing.{Held, new-held, list-held}
+use Rattle.forms.specs.Syllables.{Syllable, openWord, bareKeys, Gives}
+use Rattle.forms.proofs.AnyOrder.{any-order}
+use Rattle.promises.specs.Contracts.{TypeAllows, typed-as, shown-answer, shown-output, judged, decided}
+use Rattle.promises.specs.EachSyllable.{IsSyllable, SecondHalf}
+use Rattle.promises.proofs.Alike.{is-false, shows-state, judges, decides}
+
+-- keys that give a syllable: whatever typing them may answer is that syllable
+pub typed-gives : (m : ℕ) (ks : List ℕ) (w : Letters) (t : ℕ) → T (isMode m) → Gives m ks w t → (r : TypeAll) → TypeAllows m ks r → IsSyllable r w t
+typed-gives m ks w t mode g r a =
+    let e = typed-as a ∙ g .answered in
+    let held : Held (newWord m) (typed m ks) = list-held (newWord m) (wordOf (newWord m)) ks (new-held m mode) (omega (arith, g .short)) (g .allowed) in
+    let word-is : wordOf (r .word) ≡ typed m ks = ap (λ (x : TypeAll). wordOf (x .word)) e ∙ word-held (newWord m) (typed m ks) (held .fine .letters) in
+    let range : outOfRange (r .word) ≡ false =
+    ap (λ (x : TypeAll). outOfRange (x .word)) e ∙ is-false (outOfRange (holding (newWord m) (typed m ks))) (held .range) in
+    let state-is : wordOf (r .word) .state ≡ openWord w t = ap (λ (z : Typed). z .state) word-is ∙ g .state in
+    record {
+      answer = ap (λ (x : TypeAll). x .answer) e;
+      state = state-is;
+      text = λ p. (
+        shown-answer p ∙ ap (λ (x : Written). x .answer) (shows-state (r .word) range (openWord w t) state-is _),
+        shown-output p ∙ ap (λ (x : Written). x .output) (shows-state (r .word) range (openWord w t) state-is _),
+      );
+      verdict = λ p. judged p ∙ judges (r .word) range ∙ ap (λ (z : Typed). Judged (verdict (z .state .letters) (z .state .tone))) word-is ∙ ap (λ (v : ℕ). Judged v) (g .verdict-0);
+      decision = λ p. decided p ∙ decides (r .word) range ∙ ap (λ (z : Typed). Decided (decision z)) word-is ∙ ap (λ (d : Decision). Decided d) (g .kept);
+    }
+
+pub second-half : SecondHalf
+second-half m mode w t s ks order r a = typed-gives m (bareKeys w ++ ks) w t mode (any-order m mode w t s ks order) r a

@@ -1,0 +1,37 @@
+-- Demand 3, second half, of whatever the contracts allow: for each valid syllable its bare letters, then its stroke, shape and tone keys in any order, give that syllable.
+use mathlib.Core.Path.{_≡_}
+use mathlib.Core.List.{List, _++_, map}
+use Prim.Native.Nat.{ℕ}
+use lib.Dec.{T}
+use Rattle.rules.specs.Letters.{Letters}
+use Rattle.rules.specs.TheWord.{wordOf}
+use Rattle.rules.specs.KeyRoles.{lower}
+use Rattle.rules.specs.CodePoints.{shown}
+use Rattle.rules.specs.Speller.{toneKeys}
+use Rattle.rules.specs.Refusals.{isMode}
+use Rattle.rules.specs.declared.TypeAll.{TypeAll}
+use Rattle.rules.specs.declared.TypeAnswer.the-variants.{Typed}
+use Rattle.rules.specs.declared.WriteAnswer.{WriteAnswer}
+use Rattle.rules.specs.declared.VerdictAnswer.{VerdictAnswer}
+use Rattle.rules.specs.declared.VerdictAnswer.the-variants.{Judged}
+use Rattle.rules.specs.declared.DecisionAnswer.{DecisionAnswer}
+use Rattle.rules.specs.declared.DecisionAnswer.the-variants.{Decided}
+use Rattle.rules.specs.declared.Decision.the-variants.{Keep}
+use Rattle.output.specs.Front.{put}
+use Rattle.forms.specs.Syllables.{Syllable, openWord, bareKeys, markKeys, Order}
+use Rattle.promises.specs.Contracts.{TypeAllows, ShowAllows, VerdictAllows, DecisionAllows}
+
+-- The result of typing a list is this syllable: its letters in their case, its tone, open; show writes its text, the verdict is 0 and the decision keep.
+pub record IsSyllable (r : TypeAll) (w : Letters) (t : ℕ) : Type 0 where
+  pub answer : r .answer ≡ Typed
+  pub state : wordOf (r .word) .state ≡ openWord w t
+  pub text : {before after : List ℕ} {a : WriteAnswer} → ShowAllows (r .word) before a after →
+      (a ≡ put (shown (openWord w t)) before .answer) × (after ≡ put (shown (openWord w t)) before .output)
+  pub verdict : {v : VerdictAnswer} → VerdictAllows (r .word) v → v ≡ Judged 0
+  pub decision : {d : DecisionAnswer} → DecisionAllows (r .word) d → d ≡ Decided Keep
+
+-- Each valid syllable in both modes and every mix of capitals; the added keys in either case and any order.
+abbrev pub SecondHalf : Type 0
+SecondHalf =
+    (m : ℕ) → T (isMode m) → (w : Letters) (t : ℕ) → Syllable w t → (ks : List ℕ) → Order (toneKeys m t ++ markKeys m w) (map lower ks)
+    → (r : TypeAll) → TypeAllows m (bareKeys w ++ ks) r → IsSyllable r w t

@@ -2,3 +2,4 @@ pub mod Alike
 pub mod TwoOrders
 pub mod EachKey
 pub mod EachSyllable
+pub mod RoundTrip

@@ -6,7 +6,7 @@ use contract.Lifetimes.{Lfts}
 use denote.Ref.{now}
 use denote.Triple.Entry.{Args}
 use denote.Triple.Clauses.{AtExit}
-use Rattle.rules.specs.WhatComesBack.{start as startOf, step as stepOf, typeAll, show as showOf, verdictAnswer, placeAnswer, decisionAnswer}
+use Rattle.rules.specs.WhatComesBack.{start as startOf, step as stepOf, typeAll, show as showOf, verdictAnswer, placeAnswer, decisionAnswer, spell as spellOf}
 use Rattle.rules.specs.declared.Word.{Word}
 use Rattle.rules.specs.declared.Start.{Start}
 use Rattle.rules.specs.declared.Step.{Step}
@@ -29,6 +29,8 @@ use Rattle.word.proofs.decision as decision
 use Rattle.word.proofs.decision.Reads as decision-reads
 use Rattle.show.proofs.show as show
 use Rattle.show.proofs.show.Reads as show-reads
+use Rattle.speller.proofs.spell as spell
+use Rattle.speller.proofs.spell.Reads as spell-reads
 
 -- start: a mode
 pub record StartAllows (m : ℕ) (r : Start) : Type 0 where
@@ -101,3 +103,21 @@ pub record DecisionAllows (w : Word) (r : DecisionAnswer) : Type 0 where
 
 pub decided : {w : Word} {r : DecisionAnswer} → DecisionAllows w r → r ≡ decisionAnswer w
 decided a = a .post
+
+-- speller: a mode, a text, and the output before and after
+pub record SpellAllows (m : ℕ) (text : List ℕ) (before : List ℕ) (r : WriteAnswer) (after : List ℕ) : Type 0 where
+  pub lifetimes : Lfts 2
+  pub args : Args spell.signature lifetimes
+  pub exit : AtExit spell.ended lifetimes
+  pub mode : args .0 ≡ m
+  pub of-text : now (args .1 .0) ≡ text
+  pub at-entry : now (args .1 .1 .0) ≡ before
+  pub at-exit : now (exit .1 .1 .0) ≡ after
+  pub post : spell-reads.Post lifetimes args r exit
+
+module _ {m : ℕ} {text before : List ℕ} {r : WriteAnswer} {after : List ℕ} (a : SpellAllows m text before r after) where
+  pub spelled-answer : r ≡ spellOf m text before .answer
+  spelled-answer = a .post .0 ∙ (λ i. spellOf (a .mode i) (a .of-text i) (a .at-entry i) .answer)
+
+  pub spelled-output : after ≡ spellOf m text before .output
+  spelled-output = sym (a .at-exit) ∙ a .post .1 ∙ (λ i. spellOf (a .mode i) (a .of-text i) (a .at-entry i) .output)

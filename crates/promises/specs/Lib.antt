@@ -2,3 +2,4 @@ pub mod Contracts
 pub mod TwoOrders
 pub mod EachKey
 pub mod EachSyllable
+pub mod RoundTrip

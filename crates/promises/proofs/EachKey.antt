@@ -7,18 +7,20 @@ use native.Mathlib.Omega.{arith}
 use borrow.Author.Tests.{le-ltb}
 use lib.Dec.{T}
 use lib.ListN.{length}
-use Rattle.rules.specs.TheWord.{mostKeys, newWord, holding}
+use Rattle.rules.specs.TheWord.{mostKeys, newWord, wordOf, holding}
 use Rattle.rules.specs.KeyRoles.{isKey}
-use Rattle.rules.specs.Refusals.{all, isMode, refusal}
+use Rattle.rules.specs.Refusals.{all, isMode, outOfRange, refusal}
 use Rattle.rules.specs.WhatComesBack.{start, step, typed, typeAll}
 use Rattle.rules.specs.declared.Word.{Word}
 use Rattle.rules.specs.declared.Start.{Start}
 use Rattle.rules.specs.declared.Step.{Step}
 use Rattle.rules.specs.declared.TypeAll.{TypeAll}
 use Rattle.rules.specs.declared.TypeAnswer.the-variants.{Typed}
-use Rattle.rules.proofs.Typing.{stepping, typing-is-stepping}
+use Rattle.rules.proofs.Records.{word-held}
+use Rattle.rules.proofs.Typing.{Held, new-held, list-held, stepping, typing-is-stepping}
 use Rattle.promises.specs.Contracts.{started, stepped, typed-as}
 use Rattle.promises.specs.EachKey.{Stepped, no-key, key-and-more, Accepted, AtEachKey}
+use Rattle.promises.proofs.Alike.{is-false}
 
 through : {w v : Word} {ks : List ℕ} → Stepped w ks v → stepping w ks ≡ v
 through no-key = refl
@@ -35,6 +37,15 @@ module _ (m : ℕ) (ks : List ℕ) (ok : Accepted m ks) where
       let e = ap not (true-of (isMode m) (ok .mode)) in
       let n = true-of (all (isKey m) ks) (ok .keys) in
       simp (e, le-ltb mostKeys (0 + length ks) (omega (arith, ok .few)), n)
+
+  held : Held (newWord m) (typed m ks)
+  held = list-held (newWord m) (wordOf (newWord m)) ks (new-held m (ok .mode)) (omega (arith, ok .few)) (ok .keys)
+
+  pub typed-in-range : outOfRange (holding (newWord m) (typed m ks)) ≡ false
+  typed-in-range = is-false (outOfRange (holding (newWord m) (typed m ks))) (held .range)
+
+  pub typed-word : wordOf (holding (newWord m) (typed m ks)) ≡ typed m ks
+  typed-word = word-held (newWord m) (typed m ks) (held .fine .letters)
 
   begun : start m .word ≡ newWord m
   unfolding refusal

@@ -7,7 +7,7 @@ use native.Mathlib.Omega.{arith}
 use lib.Dec.{T}
 use lib.ListN.{length}
 use Rattle.rules.specs.Letters.{Letters}
-use Rattle.rules.specs.TheWord.{Typed, newWord, wordOf, holding}
+use Rattle.rules.specs.TheWord.{Typed, wordOf}
 use Rattle.rules.specs.TakingApart.{verdict}
 use Rattle.rules.specs.Decision.{decision}
 use Rattle.rules.specs.Refusals.{isMode, outOfRange}
@@ -17,22 +17,21 @@ use Rattle.rules.specs.declared.TypeAll.{TypeAll}
 use Rattle.rules.specs.declared.VerdictAnswer.the-variants.{Judged}
 use Rattle.rules.specs.declared.DecisionAnswer.the-variants.{Decided}
 use Rattle.rules.specs.declared.Decision.{Decision}
-use Rattle.rules.proofs.Records.{word-held}
-use Rattle.rules.proofs.Typing.{Held, new-held, list-held}
 use Rattle.forms.specs.Syllables.{Syllable, openWord, bareKeys, Gives}
 use Rattle.forms.proofs.AnyOrder.{any-order}
 use Rattle.promises.specs.Contracts.{TypeAllows, typed-as, shown-answer, shown-output, judged, decided}
+use Rattle.promises.specs.EachKey.{Accepted}
 use Rattle.promises.specs.EachSyllable.{IsSyllable, SecondHalf}
-use Rattle.promises.proofs.Alike.{is-false, shows-state, judges, decides}
+use Rattle.promises.proofs.Alike.{shows-state, judges, decides}
+use Rattle.promises.proofs.EachKey.{typed-in-range, typed-word}
 
 -- keys that give a syllable: whatever typing them may answer is that syllable
 pub typed-gives : (m : ℕ) (ks : List ℕ) (w : Letters) (t : ℕ) → T (isMode m) → Gives m ks w t → (r : TypeAll) → TypeAllows m ks r → IsSyllable r w t
 typed-gives m ks w t mode g r a =
     let e = typed-as a ∙ g .answered in
-    let held : Held (newWord m) (typed m ks) = list-held (newWord m) (wordOf (newWord m)) ks (new-held m mode) (omega (arith, g .short)) (g .allowed) in
-    let word-is : wordOf (r .word) ≡ typed m ks = ap (λ (x : TypeAll). wordOf (x .word)) e ∙ word-held (newWord m) (typed m ks) (held .fine .letters) in
-    let range : outOfRange (r .word) ≡ false =
-    ap (λ (x : TypeAll). outOfRange (x .word)) e ∙ is-false (outOfRange (holding (newWord m) (typed m ks))) (held .range) in
+    let ok : Accepted m ks = record { mode = mode; few = omega (arith, g .short); keys = g .allowed } in
+    let word-is : wordOf (r .word) ≡ typed m ks = ap (λ (x : TypeAll). wordOf (x .word)) e ∙ typed-word m ks ok in
+    let range : outOfRange (r .word) ≡ false = ap (λ (x : TypeAll). outOfRange (x .word)) e ∙ typed-in-range m ks ok in
     let state-is : wordOf (r .word) .state ≡ openWord w t = ap (λ (z : Typed). z .state) word-is ∙ g .state in
     record {
       answer = ap (λ (x : TypeAll). x .answer) e;

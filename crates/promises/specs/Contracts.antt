@@ -4,9 +4,9 @@ use mathlib.Core.List.{List}
 use Prim.Native.Nat.{ℕ}
 use contract.Lifetimes.{Lfts}
 use denote.Ref.{now}
-use denote.Triple.Entry.{Args}
+use denote.Triple.Entry.{Args, Res}
 use denote.Triple.Clauses.{AtExit}
-use Rattle.rules.specs.WhatComesBack.{start as startOf, step as stepOf, typeAll, show as showOf, verdictAnswer, placeAnswer, decisionAnswer, spell as spellOf}
+use Rattle.rules.specs.WhatComesBack.{start as startOf, step as stepOf, typeAll, show as showOf, verdictAnswer, placeAnswer, decisionAnswer, commit as commitOf, commitAnswer, spell as spellOf}
 use Rattle.rules.specs.declared.Word.{Word}
 use Rattle.rules.specs.declared.Start.{Start}
 use Rattle.rules.specs.declared.Step.{Step}
@@ -15,6 +15,7 @@ use Rattle.rules.specs.declared.WriteAnswer.{WriteAnswer}
 use Rattle.rules.specs.declared.PlaceAnswer.{PlaceAnswer}
 use Rattle.rules.specs.declared.VerdictAnswer.{VerdictAnswer}
 use Rattle.rules.specs.declared.DecisionAnswer.{DecisionAnswer}
+use Rattle.rules.specs.declared.CommitAnswer.{CommitAnswer}
 use Rattle.step.proofs.step as step
 use Rattle.step.proofs.step.Reads as step-reads
 use Rattle.word.proofs.start as start
@@ -29,6 +30,10 @@ use Rattle.word.proofs.decision as decision
 use Rattle.word.proofs.decision.Reads as decision-reads
 use Rattle.show.proofs.show as show
 use Rattle.show.proofs.show.Reads as show-reads
+use Rattle.commit.proofs.commit as commit
+use Rattle.commit.proofs.commit.Reads as commit-reads
+use Rattle.commit.proofs.answer as answer
+use Rattle.commit.proofs.answer.Reads as answer-reads
 use Rattle.speller.proofs.spell as spell
 use Rattle.speller.proofs.spell.Reads as spell-reads
 
@@ -103,6 +108,33 @@ pub record DecisionAllows (w : Word) (r : DecisionAnswer) : Type 0 where
 
 pub decided : {w : Word} {r : DecisionAnswer} → DecisionAllows w r → r ≡ decisionAnswer w
 decided a = a .post
+
+-- commit, and the question on the same input: a mode, keys and a text; of the part handed back its bytes
+pub record CommitAllows (m : ℕ) (ks text part : List ℕ) : Type 0 where
+  pub lifetimes : Lfts 1
+  pub args : Args commit.signature lifetimes
+  pub result : Res commit.signature lifetimes
+  pub exit : AtExit commit.ended lifetimes
+  pub mode : args .0 ≡ m
+  pub keys : now (args .1 .0) ≡ ks
+  pub of-text : now (args .1 .1 .0) ≡ text
+  pub part-is : now result ≡ part
+  pub post : commit-reads.Post lifetimes args result exit
+
+pub handed-back : {m : ℕ} {ks text part : List ℕ} → CommitAllows m ks text part → part ≡ commitOf m ks text
+handed-back a = sym (a .part-is) ∙ a .post ∙ (λ i. commitOf (a .mode i) (a .keys i) (a .of-text i))
+
+pub record QuestionAllows (m : ℕ) (ks text : List ℕ) (r : CommitAnswer) : Type 0 where
+  pub lifetimes : Lfts 2
+  pub args : Args answer.signature lifetimes
+  pub exit : AtExit answer.ended lifetimes
+  pub mode : args .0 ≡ m
+  pub keys : now (args .1 .0) ≡ ks
+  pub of-text : now (args .1 .1 .0) ≡ text
+  pub post : answer-reads.Post lifetimes args r exit
+
+pub answered : {m : ℕ} {ks text : List ℕ} {r : CommitAnswer} → QuestionAllows m ks text r → r ≡ commitAnswer m ks text
+answered a = a .post ∙ (λ i. commitAnswer (a .mode i) (a .keys i) (a .of-text i))
 
 -- speller: a mode, a text, and the output before and after
 pub record SpellAllows (m : ℕ) (text : List ℕ) (before : List ℕ) (r : WriteAnswer) (after : List ℕ) : Type 0 where

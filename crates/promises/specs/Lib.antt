@@ -3,3 +3,4 @@ pub mod TwoOrders
 pub mod EachKey
 pub mod EachSyllable
 pub mod RoundTrip
+pub mod Committed

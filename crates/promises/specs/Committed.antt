@@ -1,0 +1,24 @@
+-- Commit, of whatever the contracts allow: the text that show writes is granted, and no English word comes out half marked.
+use mathlib.Core.Path.{_≡_}
+use mathlib.Core.List.{List}
+use Prim.Native.Nat.{ℕ, _≤_}
+use lib.ListN.{length, take}
+use Rattle.rules.specs.TheWord.{mostBytes}
+use Rattle.rules.specs.declared.TypeAll.{TypeAll}
+use Rattle.rules.specs.declared.WriteAnswer.{WriteAnswer}
+use Rattle.rules.specs.declared.WriteAnswer.the-variants.{Wrote}
+use Rattle.rules.specs.declared.CommitAnswer.{CommitAnswer}
+use Rattle.rules.specs.declared.CommitAnswer.the-variants.{Granted}
+use Rattle.rules.proofs.Commits.{HandedBack}
+use Rattle.promises.specs.Contracts.{TypeAllows, ShowAllows, CommitAllows, QuestionAllows}
+use Rattle.promises.specs.EachKey.{Accepted}
+
+-- Any accepted mode and keys, typed; the word shown into an output of 96 bytes or more; what was written is granted.
+abbrev pub ShownIsGranted : Type 0
+ShownIsGranted =
+    (m : ℕ) (ks : List ℕ) → Accepted m ks → (r : TypeAll) → TypeAllows m ks r → (before after : List ℕ) (a : WriteAnswer) → mostBytes ≤ length before
+    → ShowAllows (r .word) before a after → (n : ℕ) × (a ≡ Wrote n) × ((c : CommitAnswer) → QuestionAllows m ks (take n after) c → c ≡ Granted)
+
+-- Where commit is granted it hands back these keys, or the shown text of a word that is valid, closed, starts with đ, or had no act or undo.
+abbrev pub NotHalfMarked : Type 0
+NotHalfMarked = (m : ℕ) (ks text part : List ℕ) → QuestionAllows m ks text Granted → CommitAllows m ks text part → HandedBack m ks part

@@ -4,7 +4,7 @@ use mathlib.Core.Bool.{Bool, true, false, not}
 use mathlib.Core.List.{List, [], _∷_}
 use Prim.Native.Nat.{ℕ, _+_, _-_, _≤_, _<_}
 use native.Mathlib.Omega.{arith}
-use borrow.Author.Tests.{lt-ltb, le-ltb}
+use borrow.Author.Tests.{lt-ltb, le-ltb, not-false}
 use lib.Dec.{T}
 use lib.ListN.{length, take, drop}
 use lib.Seq.{take-at}
@@ -28,6 +28,7 @@ use Rattle.rules.specs.declared.DecisionAnswer.the-variants.{Decided}
 use Rattle.rules.specs.declared.DecisionAnswer.the-variants.{Refused as DecisionRefused}
 use Rattle.rules.specs.declared.Decision.{Decision}
 use Rattle.rules.specs.declared.Decision.the-variants.{Keep as Kept, Restore as Restored}
+use Rattle.rules.proofs.Tests.{is-false}
 use Rattle.rules.proofs.Records.{word-held}
 use Rattle.rules.proofs.Typing.{Held, new-held, list-held}
 use Rattle.rules.proofs.TextFits.{text-fits}
@@ -38,14 +39,6 @@ use Rattle.commit.specs.Rulings.{decided, judgedIf, judged, rulingOf}
 
 abbrev refusedAs : ℕ → ℕ → Ruling
 refusedAs n v = Refused (record { number = n; value = v })
-
-is-true : (b : Bool) → not b ≡ false → T b
-is-true true e = tt
-is-true false e = let z : _≡_ {A = ℕ} 0 1 = cc in absurd (omega arith)
-
-is-false : (b : Bool) → T (not b) → b ≡ false
-is-false true t = absurd t
-is-false false t = refl
 
 -- a word in range: its text, and what is decided of it
 module _ (w : Word) (e : outOfRange w ≡ false) where
@@ -153,7 +146,7 @@ module _ (m : ℕ) (ks text : List ℕ) where
     -- past the keys: the word that they make is in range, and the ruling is that on it
     module _ (keys : all (isKey m) ks ≡ true) where
       held : Held (newWord m) (typed m ks)
-      held = list-held (newWord m) (wordOf (newWord m)) ks (new-held m (is-true (isMode m) mode)) (omega arith) (subst T (sym keys) tt)
+      held = list-held (newWord m) (wordOf (newWord m)) ks (new-held m (subst T (sym (not-false (isMode m) mode)) tt)) (omega arith) (subst T (sym keys) tt)
 
       pub in-order : outOfRange (typeAll m ks .word) ≡ false
       in-order = ap (λ (t : TypeAll). outOfRange (t .word)) (all-keys keys) ∙ is-false (outOfRange (holding (newWord m) (typed m ks))) (held .range)

@@ -11,7 +11,7 @@ use Rattle.rules.specs.TakingApart.{isKind, frontIf, front, pastIf, past, befor
 use Rattle.rules.specs.KeyRoles.{shaped}
 use Rattle.rules.proofs.Edits.{dee}
 use Rattle.rules.proofs.Tests.{either as or-else, or-l, or-r}
-use Rattle.keys.proofs.Bools.{is-true}
+use Rattle.rules.proofs.Tests.{is-true}
 use Rattle.forms.specs.Forms.{capitals, cased}
 use Rattle.forms.proofs.Courses.{bare}
 use Rattle.forms.proofs.Meets.{and-if, and-so, some-row-so, meet}

@@ -8,6 +8,7 @@ use lib.Dec.{T, eqb}
 use lib.Ieee.Fits.{and-i, and-l, and-r, eq→eqb}
 use Rattle.rules.specs.Letters.{Letter, Letters, named, is, same, some, oneOf, isNil, firstBase}
 use Rattle.rules.specs.TakingApart.{isKind, frontIf, front, pastIf, past, before, run, plainU, iAndAnother, joins, withFirst, rest, initialOf, nucleusOf, initial, nucleus, final, leftovers, initials, fit, finals, Row, rows, takes, stands, someRow, isThis, listed, fits, check, firstThatHolds, verdict}
+use Rattle.rules.proofs.Wholes.{whole}
 use Rattle.forms.specs.Forms.{gather, gatherRows, thoseIf, withFinal, mayFollow, withNucleus, withInitial, allForms, capitals}
 use Rattle.forms.proofs.Meets.{either, and-if, or-so}
 use Rattle.forms.proofs.Cases.{same-cased, same-append, fit-cased, stands-cased, joins-cased, takes-cased}
@@ -38,29 +39,11 @@ passed w t v =
     go false true true true true true true h = (tt, tt, tt, tt, tt, tt, tt)
 
 -- a word without leftovers is its initial, nucleus and final
-front-past : (v : Bool) (w : Letters) → front v w ++ past v w ≡ w
-front-past v [] = refl
-front-past v (x ∷ xs) = go (isKind v (x .base)) _ _ (front-past v xs)
-  where
-    go : (b : Bool) (u z : Letters) → u ++ z ≡ xs → frontIf b x u ++ pastIf b x xs z ≡ x ∷ xs
-    go true u z e = ap (_∷_ x) e
-    go false u z e = refl
-
-joined : (b : Bool) (o r : Letters) → initialOf b o r ++ nucleusOf b r ≡ o ++ r
-joined true o [] = refl
-joined true o (x ∷ r) = append-assoc o (x ∷ []) r
-joined false o r = refl
-
 nil : (w : Letters) → T (isNil w) → w ≡ []
 nil [] t = refl
 
 pub parts : (w : Letters) → T (isNil (leftovers w)) → initial w ++ (nucleus w ++ final w) ≡ w
-unfolding initial nucleus final leftovers
-parts w t =
-    sym (append-assoc (initial w) (nucleus w) (final w)) ∙ ap (λ (z : Letters). z ++ final w) (joined (joins (before w) (run w)) (before w) (run w)) ∙
-    append-assoc (before w) (run w) (final w) ∙
-    ap (λ (z : Letters). before w ++ (run w ++ z)) (sym (append-nil (final w)) ∙ ap (_++_ (final w)) (sym (nil (leftovers w) t)) ∙ front-past false (past true (past false w))) ∙
-    ap (_++_ (before w)) (front-past true (past false w)) ∙ front-past false w
+parts w t = ap (λ (z : Letters). initial w ++ (nucleus w ++ z)) (sym (append-nil (final w)) ∙ ap (_++_ (final w)) (sym (nil (leftovers w) t))) ∙ whole w
 
 -- the initial and the nucleus of a word do not join once more
 two-letters : (x y z : Letter) (w : Letters) → T (same (x ∷ y ∷ w) (z ∷ [])) → T false

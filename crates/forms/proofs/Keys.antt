@@ -18,7 +18,7 @@ use Rattle.rules.proofs.Typing.{of-modes}
 use Rattle.forms.specs.Forms.{capitals}
 use Rattle.forms.specs.Syllables.{bareKeys, markKeys, Picks, here, there, Order, done, next}
 use Rattle.forms.proofs.Courses.{Item, letter, mark, itemKeys, course, roleOf, bare}
-use Rattle.forms.proofs.Meets.{is-false}
+use Rattle.rules.proofs.Tests.{is-false}
 use Rattle.forms.proofs.Walks.{itemCapitals}
 use Rattle.forms.proofs.Chains.{six-tones}
 

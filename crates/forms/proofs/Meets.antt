@@ -8,9 +8,6 @@ use Rattle.rules.specs.Letters.{Letters, some}
 use Rattle.rules.specs.TakingApart.{Row, someRow}
 use Rattle.forms.specs.Forms.{every}
 
-pub is-false : (b : Bool) → T (not b) → b ≡ false
-is-false false t = refl
-
 pub and-if : (b c : Bool) → T (elim b [ true ↦ c | false ↦ false ]) → T b × T c
 and-if true c t = (tt, t)
 

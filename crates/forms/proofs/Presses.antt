@@ -12,8 +12,7 @@ use Rattle.rules.specs.TheWord.{State, Typed, stateOf}
 use Rattle.rules.specs.KeyRoles.{isKey, isSmall, isDigit, isCapital, lowerIf, letterOfKey, role, unlessClosed, shaped, type, typeList}
 use Rattle.rules.specs.Speller.{keyInCase, keyOfLetter}
 use Rattle.rules.proofs.Tests.{or-l, or-r}
-use Rattle.keys.proofs.Bools.{is-true}
-use Rattle.forms.proofs.Meets.{is-false}
+use Rattle.rules.proofs.Tests.{is-true, is-false}
 
 abbrev pub press : ℕ → State → ℕ → State
 press mode s k = stateOf (unlessClosed (s .closed) (role mode k) s (letterOfKey k))

@@ -16,7 +16,9 @@ use Rattle.rules.specs.declared.Place.the-variants.{At, Nowhere}
 use Rattle.letters.specs.Alphabet.{inAlphabet}
 use Rattle.forms.specs.Forms.{allForms, every, EveryForm}
 use Rattle.forms.specs.Syllables.{Syllable}
-use Rattle.forms.proofs.Meets.{is-false, everyRow}
+use Rattle.rules.proofs.Tests.{is-false}
+use Rattle.rules.proofs.TonePlaces.{vowelAt}
+use Rattle.forms.proofs.Meets.{everyRow}
 use Rattle.forms.proofs.EachValid.{each-valid}
 use Rattle.forms.proofs.TableLetters.{eachLetter, each-letter}
 use Rattle.forms.proofs.Chains.{six-tones}
@@ -68,11 +70,6 @@ with-tone x t m h v =
     in-case x t (six-tones (λ n. T (bothKnown n b sh)) (search and-l) (search and-l) (search (and-l, and-r)) (search (and-l, and-r)) (search (and-l, and-r)) (search (and-l, and-r)) t m)
 
 -- the letter on which the tone is shown is a vowel letter: computed over the forms, of a tone that is there
-abbrev vowelAt : ℕ → Letters → Bool
-vowelAt n [] = false
-vowelAt zero (x ∷ xs) = vowel (x .base)
-vowelAt (suc n) (x ∷ xs) = vowelAt n xs
-
 abbrev onVowel : Place → Letters → Bool
 onVowel (At n) w = vowelAt n w
 onVowel Nowhere w = false

@@ -17,10 +17,6 @@ pub either : (p q : Bool) → T (not p || q) → p ≡ true → T q
 either true q t e = t
 either false q t e = let z : _≡_ {A = ℕ} 0 1 = cc in absurd (omega arith)
 
-pub is-true : (p : Bool) → T p → p ≡ true
-is-true true t = refl
-is-true false t = absurd t
-
 pub same-bool : (b c : Bool) → T (Bool·beq b c) → b ≡ c
 same-bool true true t = refl
 same-bool true false t = absurd t

@@ -18,7 +18,7 @@ use Rattle.letters.specs.declared.LetterRead.the-variants.{Letter}
 use Rattle.letters.specs.Alphabet.{everySign, sameSign, inAlphabet, countSigns}
 use Rattle.letters.specs.Writing.{isLetter, toneStands, bytesOf, listOf, written}
 use Rattle.letters.specs.Reading.{readOf, readAt}
-use Rattle.keys.proofs.Bools.{is-true}
+use Rattle.rules.proofs.Tests.{is-true}
 use Rattle.letters.proofs.Fronts.{sign-eq, of-alphabet, decodes-back}
 use Rattle.letters.proofs.Agrees.{starts-is, Shown, absent, present, shown, agree}
 

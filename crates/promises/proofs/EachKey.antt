@@ -16,26 +16,22 @@ use Rattle.rules.specs.declared.Start.{Start}
 use Rattle.rules.specs.declared.Step.{Step}
 use Rattle.rules.specs.declared.TypeAll.{TypeAll}
 use Rattle.rules.specs.declared.TypeAnswer.the-variants.{Typed}
+use Rattle.rules.proofs.Tests.{is-true, is-false}
 use Rattle.rules.proofs.Records.{word-held}
 use Rattle.rules.proofs.Typing.{Held, new-held, list-held, stepping, typing-is-stepping}
 use Rattle.promises.specs.Contracts.{started, stepped, typed-as}
 use Rattle.promises.specs.EachKey.{Stepped, no-key, key-and-more, Accepted, AtEachKey}
-use Rattle.promises.proofs.Alike.{is-false}
 
 through : {w v : Word} {ks : List ℕ} → Stepped w ks v → stepping w ks ≡ v
 through no-key = refl
 through (key-and-more {ks = ks} a s) = ap (λ (r : Step). stepping (r .word) ks) (sym (stepped a)) ∙ through s
 
-true-of : (b : Bool) → T b → b ≡ true
-true-of true t = refl
-true-of false t = absurd t
-
 module _ (m : ℕ) (ks : List ℕ) (ok : Accepted m ks) where
   pub all-typed : typeAll m ks ≡ record { answer = Typed; word = holding (newWord m) (typed m ks) }
   unfolding typeAll refusal
   all-typed =
-      let e = ap not (true-of (isMode m) (ok .mode)) in
-      let n = true-of (all (isKey m) ks) (ok .keys) in
+      let e = ap not (is-true (isMode m) (ok .mode)) in
+      let n = is-true (all (isKey m) ks) (ok .keys) in
       simp (e, le-ltb mostKeys (0 + length ks) (omega (arith, ok .few)), n)
 
   held : Held (newWord m) (typed m ks)
@@ -49,7 +45,7 @@ module _ (m : ℕ) (ks : List ℕ) (ok : Accepted m ks) where
 
   begun : start m .word ≡ newWord m
   unfolding refusal
-  begun = let e = ap not (true-of (isMode m) (ok .mode)) in simp e
+  begun = let e = ap not (is-true (isMode m) (ok .mode)) in simp e
 
 pub at-each-key : AtEachKey
 at-each-key m ks new v r ok s p t =

@@ -13,13 +13,14 @@ use Rattle.rules.specs.declared.Word.{Word}
 use Rattle.rules.specs.declared.Role.{Role}
 use Rattle.rules.specs.declared.Role.the-variants.{ToneRole, ShapeRole, StrokeRole, NoRole}
 use Rattle.rules.specs.declared.Step.{Step}
+use Rattle.rules.proofs.Tests.{is-false}
 use Rattle.rules.proofs.Commute.{Differ}
 use Rattle.rules.proofs.StaysInRange.{Whole, step-in-range}
 use Rattle.rules.proofs.Records.{withArrays}
 use Rattle.rules.proofs.RecordOrders.{record-orders}
 use Rattle.promises.specs.Contracts.{stepped, shown-answer, shown-output, placed, judged, decided}
 use Rattle.promises.specs.TwoOrders.{differ, OpenWithRoom, BothOrders, FirstHalf}
-use Rattle.promises.proofs.Alike.{is-false, same-text, same-place, same-verdict, same-decision}
+use Rattle.promises.proofs.Alike.{same-text, same-place, same-verdict, same-decision}
 
 families : (r q : Role) → T (differ r q) → Differ r q
 families (ToneRole t) (ToneRole u) d = absurd d

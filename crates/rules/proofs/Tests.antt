@@ -1,6 +1,6 @@
 -- Tests that hold: what follows from one of a list, from both, from a choice.
-use mathlib.Core.Path.{_≡_, sym, ap₂, subst}
-use mathlib.Core.Bool.{Bool, true, false, _||_}
+use mathlib.Core.Path.{_≡_, refl, sym, ap₂, subst}
+use mathlib.Core.Bool.{Bool, true, false, not, _||_}
 use mathlib.Core.List.{List, [], _∷_}
 use Prim.Native.Nat.{ℕ}
 use lib.Dec.{T, eqb, eqb→eq}
@@ -19,6 +19,15 @@ or-l false q t = absurd t
 pub or-r : (p q : Bool) → T q → T (p || q)
 or-r true q t = tt
 or-r false q t = t
+
+-- a test that holds is true, one that does not is false
+pub is-true : (b : Bool) → T b → b ≡ true
+is-true true t = refl
+is-true false t = absurd t
+
+pub is-false : (b : Bool) → T (not b) → b ≡ false
+is-false true t = absurd t
+is-false false t = refl
 
 -- a number that is one of a list passes what each of the list passes
 pub of-elem : (f : ℕ → Bool) (b : ℕ) (bs : List ℕ) → T (all f bs) → T (elem b bs) → T (f b)

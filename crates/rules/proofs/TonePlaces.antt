@@ -15,9 +15,9 @@ use Rattle.rules.specs.declared.Place.{Place}
 use Rattle.rules.specs.declared.Place.the-variants.{At, Nowhere}
 use Rattle.rules.proofs.Wholes.{whole}
 
--- the letter at a place, if there is one, is a vowel letter
+-- there is a letter at the place, and it is a vowel letter
 abbrev pub vowelAt : ℕ → Letters → Bool
-vowelAt n [] = true
+vowelAt n [] = false
 vowelAt zero (x ∷ xs) = vowel (x .base)
 vowelAt (suc n) (x ∷ xs) = vowelAt n xs
 

@@ -62,7 +62,7 @@ module _ (t : ℕ) (most : t ≤ dot) where
   toneIf b = elim b [ true ↦ t | false ↦ noTone ]
 
   toned : (i k : ℕ) (ns : List ℕ) → T (all (isLetter vni) ns) → T (vowelAt k (map letter ns)) → textFrom (At (i + k)) t i ns ≡ bytes (toneAt k t (map letter ns))
-  toned i k [] l v = refl
+  toned i k [] l v = absurd v
   toned i zero (n ∷ ns) l v =
       ap₂ _++_
       (ap (λ (b : Bool). listOf (written n (toneIf b))) (eq-eqb i (i + 0) (omega arith)) ∙ as-bytes n t (and-l (isLetter vni n) (all (isLetter vni) ns) l) (on-vowel n v))

@@ -12,7 +12,7 @@ use lib.Seq.{drop-cons, take-suc-set}
 use lib.Ieee.Fits.{and-l, and-r}
 use borrow.Author.Tests.{ltb-true, eq-eqb, ne-eqb}
 use Rattle.keys.proofs.Arms.{NoneOf}
-use Rattle.keys.proofs.Bools.{is-true}
+use Rattle.rules.proofs.Tests.{is-true}
 use Rattle.rules.specs.Letters.{Letters, plain, horn, noTone, telex, small, is}
 use Rattle.rules.specs.TheWord.{letter}
 use Rattle.rules.specs.Speller.{keyFor, keyOfLetter, shapeKey, letterKeys, toneKey, toneKeys, standardKeys}

@@ -20,7 +20,7 @@ use Rattle.letters.specs.declared.LetterRead.the-variants.{NoLetter}
 use Rattle.letters.specs.Alphabet.{sameSign}
 use Rattle.letters.specs.Decoding.{decoded}
 use Rattle.letters.specs.Reading.{readOf, readAt}
-use Rattle.keys.proofs.Bools.{is-true}
+use Rattle.rules.proofs.Tests.{is-true}
 use Rattle.letters.proofs.Fronts.{sign-eq, of-alphabet, decodes-back}
 use Rattle.letters.proofs.Agrees.{agree}
 use Rattle.letters.proofs.BackAndForth.{Stood, only-letters}

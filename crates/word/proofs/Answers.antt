@@ -24,6 +24,7 @@ use Rattle.rules.specs.declared.VerdictAnswer.the-variants.{Judged}
 use Rattle.rules.specs.declared.VerdictAnswer.the-variants.{Refused as VerdictRefused}
 use Rattle.rules.specs.declared.DecisionAnswer.the-variants.{Decided}
 use Rattle.rules.specs.declared.DecisionAnswer.the-variants.{Refused as DecisionRefused}
+use Rattle.rules.proofs.Tests.{is-true}
 use Rattle.word.specs.Refusing.{refusedOf}
 
 -- the first letter of a slice of numbers
@@ -34,11 +35,6 @@ no-first (n ∷ s) e = absurd (omega arith)
 pub first-is : (s : List ℕ) → (length s ≡ 0 → ⊥) → (eqb (getD s 0 0 % 256) (code "d") && eqb (getD s 0 0 / 256 % 8) stroke) ≡ startsWithĐ (map letter s)
 first-is [] h = absurd (h refl)
 first-is (n ∷ s) h = refl
-
--- a mode that is not refused is one
-pub mode-there : (b : Bool) → not b ≡ false → T b
-mode-there true e = tt
-mode-there false e = let z : _≡_ {A = ℕ} 0 1 = cc in omega arith
 
 -- typing a list
 module _ (m : ℕ) (ks : List ℕ) where
@@ -57,10 +53,6 @@ module _ (m : ℕ) (ks : List ℕ) where
   pub all-typed : not (isMode m) ≡ false → length ks ≤ mostKeys → T (all (isKey m) ks) → typeAll m ks ≡ record { answer = Typed; word = holding (newWord m) (typed m ks) }
   unfolding typeAll refusal
   all-typed e h t = let n : all (isKey m) ks ≡ true = is-true (all (isKey m) ks) t in simp (e, le-ltb mostKeys (0 + length ks) (omega arith), n)
-    where
-      is-true : (b : Bool) → T b → b ≡ true
-      is-true true t = refl
-      is-true false t = absurd t
 
 -- the part from 0 on is the front
 abbrev pub part : List ℕ → ℕ → Letters

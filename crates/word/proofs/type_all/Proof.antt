@@ -1,13 +1,15 @@
 -- `word::type_all` meets its contract: each answer is the row of its test, or the keys typed.
-use mathlib.Core.Path.{sym, ap, _∙_}
+use mathlib.Core.Path.{sym, ap, subst, _∙_}
 use native.Mathlib.Omega.{arith}
+use lib.Dec.{T}
 use borrow.Author.Needs.{needs}
+use borrow.Author.Tests.{not-false}
 use Rattle.rules.specs.declared.Word.{Word}
 use Rattle.rules.specs.declared.TypeAnswer.the-variants.{Typed}
 use Rattle.rules.specs.Refusals.{isMode}
 use Rattle.word.specs.Refusing.{refusedOf}
 use Rattle.word.proofs.Lists.{all-allowed}
-use Rattle.word.proofs.Answers.{no-mode, too-many, not-a-key, all-typed, mode-there}
+use Rattle.word.proofs.Answers.{no-mode, too-many, not-a-key, all-typed}
 use Rattle.word.proofs.type_all.Statement.{statement}
 use Rattle.word.proofs.type_all.Tie as tie
 
@@ -34,7 +36,7 @@ type-all-spec =
     let few = c .before .before in
     let args = few .before .before .before .args in
     let all = all-allowed (args .mode) (args .keys .now) in
-    (mode-there (isMode (args .mode)) (few .before .if1 .left), few .if2 .left, all .0 (omega (arith, c .before .allowed-before .ensures, c .if3 .left, all .2))))
+    (subst T (sym (not-false (isMode (args .mode)) (few .before .if1 .left))) tt, few .if2 .left, all .0 (omega (arith, c .before .allowed-before .ensures, c .if3 .left, all .2))))
     (λ c.
     let few = c .before .before .before in
     let args = few .before .before .before .args in

@@ -6,4 +6,5 @@ pub mod Strokes
 pub mod Tries
 pub mod Rulings
 pub mod Steps
+pub mod Shows
 pub mod One

@@ -8,6 +8,7 @@ use rules::Step;
 use rules::StepAnswer;
 use rules::ToneKey;
 use rules::Word;
+use rules::WriteAnswer;
 ghost use mathlib.Core.Path.{_≡_};
 ghost use Prim.Native.Nat.{_<_, _≤_};
 ghost use lib.ListN.{take};
@@ -17,6 +18,7 @@ ghost use Rattle.rules.specs.KeyRoles as Rules;
 ghost use Rattle.rules.specs.KeyRoles.{letterOfKey, append as appendOf, undo as undoOf, toneGoes, toneDoes, editDoes, keyDoes as keyDoesOf};
 ghost use Rattle.rules.proofs.Edits.{Good};
 ghost use Rattle.rules.specs.WhatComesBack.{step as stepOf};
+ghost use Rattle.step.specs.StepAndShow.{stepAndShow};
 ghost use Rattle.step.specs.Held.{Ready, Edits, editedOf, withState, toned, doneOf, countedIn, didOf, refusedOf};
 
 mod edits;
@@ -229,4 +231,45 @@ pub fn step(w: Word, key: u8) -> Step
         return refused(w, 3, count);
     }
     typed(w, key)
+}
+
+// What typing a key and showing the word comes to: what the key did, with the bytes written.
+pub enum ShownAnswer {
+    Did(Outcome, usize),
+    Refused(Refusal),
+}
+
+pub struct StepShown {
+    pub answer: ShownAnswer,
+    pub word: Word,
+}
+
+// A key typed and the word shown: as step, and then as show of the new word, with one range check.
+// Refusals: 8, 2, 3, then 4 with the bytes needed; word and output are then as they were.
+pub fn step_and_show(w: Word, key: u8, out: &mut [u8]) -> StepShown
+    ensures { λ r. ⌜ (r ≡ stepAndShow w key (now (out .entry)) .result) × (now (out .exit) ≡ stepAndShow w key (now (out .entry)) .output) ⌝ }
+{
+    let stepped = step(w, key);
+    let answer = stepped.answer;
+    match answer {
+        StepAnswer::Did(outcome) => {
+            let next = stepped.word;
+            let letters = next.letters;
+            let count = next.count as usize;
+            match show::text(&letters[0..count], next.tone, out) {
+                WriteAnswer::Wrote(bytes) => StepShown {
+                    answer: ShownAnswer::Did(outcome, bytes),
+                    word: next,
+                },
+                WriteAnswer::Refused(refusal) => StepShown {
+                    answer: ShownAnswer::Refused(refusal),
+                    word: w,
+                },
+            }
+        }
+        StepAnswer::Refused(refusal) => StepShown {
+            answer: ShownAnswer::Refused(refusal),
+            word: w,
+        },
+    }
 }

@@ -4,10 +4,15 @@ use contract.Lifetimes.{Lfts}
 use denote.Ref.{now}
 use denote.Triple.Entry.{Args, Res}
 use denote.Triple.Clauses.{AtExit}
+use Rattle.commit.proofs.rule as rule
+use Rattle.commit.proofs.rule.Reads as rule-reads
 use Rattle.commit.proofs.commit as commit
 use Rattle.commit.proofs.commit.Reads as commit-reads
 use Rattle.commit.proofs.answer as answer
 use Rattle.commit.proofs.answer.Reads as answer-reads
+
+pub rule-one : (κs : Lfts 2) (a : Args rule.signature κs) (r r′ : Res rule.signature κs) (e e′ : AtExit rule.ended κs) → rule-reads.Post κs a r e → rule-reads.Post κs a r′ e′ → r ≡ r′
+rule-one κs a r r′ e e′ p p′ = p ∙ sym p′
 
 pub commit-one : (κs : Lfts 1) (a : Args commit.signature κs) (r r′ : Res commit.signature κs) (e e′ : AtExit commit.ended κs) → commit-reads.Post κs a r e → commit-reads.Post κs a r′ e′ → now r ≡ now r′
 commit-one κs a r r′ e e′ p p′ = p ∙ sym p′

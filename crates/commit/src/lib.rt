@@ -14,7 +14,7 @@ use rules::Word;
 use rules::WriteAnswer;
 
 // What is to be handed back: so many bytes of the text, the keys, or nothing.
-enum Ruling {
+pub enum Ruling {
     Keep(usize),
     Restore,
     Refused(Refusal),
@@ -68,8 +68,8 @@ fn judge(w: Word, text: &[u8]) -> Ruling
     Ruling::Restore
 }
 
-// The one look that commit and its question take: refused, or the decision on the word that the keys make.
-fn rule(mode: u8, keys: &[u8], text: &[u8]) -> Ruling
+// The one look that commit and its question take: refused, or the decision on the word that the keys make. Refusals: 1, 2 (32), 2 (96), 3, 5.
+pub fn rule(mode: u8, keys: &[u8], text: &[u8]) -> Ruling
     ensures { λ r. ⌜ r ≡ rulingOf mode (now (keys .entry)) (now (text .entry)) ⌝ }
 {
     if !((mode == Word::TELEX) | (mode == Word::VNI)) {

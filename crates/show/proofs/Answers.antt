@@ -1,47 +1,58 @@
--- The answer of show by its test: refusal 8, or the word's text put into the output.
-use mathlib.Core.Path.{_≡_, sym, ap, ap₂, _∙_}
+-- The answers of text and of show by their tests: refused, or the text put into the output.
+use mathlib.Core.Path.{_≡_, sym, ap, _∙_}
 use mathlib.Core.Bool.{true, false}
 use mathlib.Core.List.{List, map}
-use Prim.Native.Nat.{ℕ, _-_, _*_, _≤_}
+use Prim.Native.Nat.{ℕ, _-_, _≤_, _<_}
 use native.Mathlib.Omega.{arith}
-use lib.ListN.{length, take, drop}
+use borrow.Author.Tests.{lt-ltb, le-ltb}
+use lib.ListN.{length, take, drop, length-take}
 use lib.Seq.{take-at}
-use Rattle.rules.specs.TheWord.{letter, wordOf, atFront, mostBytes}
+use Rattle.rules.specs.TheWord.{letter, wordOf, atFront, mostKeys, mostBytes}
 use Rattle.rules.specs.TonePlace.{tonePlace}
 use Rattle.rules.specs.CodePoints.{shown}
 use Rattle.rules.specs.Refusals.{outOfRange, refusal}
-use Rattle.rules.specs.WhatComesBack.{Written, show}
+use Rattle.rules.specs.WhatComesBack.{show}
 use Rattle.rules.specs.declared.Word.{Word}
 use Rattle.rules.specs.declared.Place.{Place}
 use Rattle.rules.specs.declared.WriteAnswer.the-variants.{Refused}
-use Rattle.rules.proofs.TextFits.{text-fits}
+use Rattle.rules.proofs.Range.{few-letters}
 use Rattle.output.specs.Front.{put}
-use Rattle.show.specs.Filling.{textFrom}
+use Rattle.show.specs.Filling.{textFrom, textOf, textOut}
+use Rattle.show.proofs.Fills.{three-each}
 use Rattle.show.proofs.Texts.{text-of}
+
+module _ (ns : List ℕ) (t : ℕ) (out : List ℕ) where
+  pub too-many : mostKeys < length ns → textOut ns t out ≡ record { answer = Refused (record { number = 2; value = mostKeys }); output = out }
+  unfolding textOut
+  too-many h = simp (lt-ltb mostKeys (length ns) h)
+
+  few-enough : length ns ≤ mostKeys → textOut ns t out ≡ put (textOf ns t) out
+  unfolding textOut
+  few-enough h = simp (le-ltb mostKeys (length ns) h)
+
+  -- the text that is made, and the front of it that is put
+  module _ (few : length ns ≤ mostKeys) (p : Place) (n : ℕ) (many : n ≡ length (textFrom p t 0 ns)) where
+    pub at-most-96 : n ≤ mostBytes
+    at-most-96 = omega (arith, many, three-each p t 0 ns)
+
+    pub put-so : (buffer old : List ℕ) → p ≡ tonePlace (map letter ns) t → buffer ≡ atFront (textFrom p t 0 ns) old → put (take (n - 0) buffer) out ≡ textOut ns t out
+    put-so buffer old at b =
+        let made = textFrom p t 0 ns in
+        let m : length made ≡ n - 0 = omega arith in
+        ap (λ (l : List ℕ). put l out) (ap (take (n - 0)) b ∙ take-at made (drop (length made) old) (n - 0) m ∙ ap (λ (q : Place). textFrom q t 0 ns) at) ∙ sym (few-enough few)
 
 module _ (w : Word) (out : List ℕ) where
   pub refused : outOfRange w ≡ true → show w out ≡ record { answer = Refused (record { number = 8; value = 0 }); output = out }
   unfolding show refusal
   refused e = simp e
 
-  put-in : outOfRange w ≡ false → show w out ≡ put (shown (wordOf w .state)) out
-  unfolding show put refusal
-  put-in e = rw e
+  module _ (e : outOfRange w ≡ false) where
+    put-in : show w out ≡ put (shown (wordOf w .state)) out
+    unfolding show put refusal
+    put-in = rw e
 
-  -- the text that is made, and the front of it that is put
-  module _ (e : outOfRange w ≡ false) (p : Place) (at : p ≡ tonePlace (map letter (take (w .count - 0) (w .letters))) (w .tone)) where
-    made : textFrom p (w .tone) 0 (take (w .count - 0) (w .letters)) ≡ shown (wordOf w .state)
-    made =
+    pub shown-so : textOut (take (w .count - 0) (w .letters)) (w .tone) out ≡ show w out
+    shown-so =
         let m : w .count - 0 ≡ w .count = omega arith in
-        ap (λ (q : Place). textFrom q (w .tone) 0 (take (w .count - 0) (w .letters))) at ∙
-        ap (λ (n : ℕ). textFrom (tonePlace (map letter (take n (w .letters))) (w .tone)) (w .tone) 0 (take n (w .letters))) m ∙ text-of w e
-
-    module _ (n : ℕ) (many : n ≡ length (textFrom p (w .tone) 0 (take (w .count - 0) (w .letters)))) where
-      pub at-most-96 : n ≤ mostBytes
-      at-most-96 = omega (arith, many, ap length made, text-fits w e)
-
-      pub put-so : (buffer old : List ℕ) → buffer ≡ atFront (textFrom p (w .tone) 0 (take (w .count - 0) (w .letters))) old → put (take (n - 0) buffer) out ≡ show w out
-      put-so buffer old b =
-          let t = textFrom p (w .tone) 0 (take (w .count - 0) (w .letters)) in
-          let m : length t ≡ n - 0 = omega arith in
-          ap (λ (l : List ℕ). put l out) (ap (take (n - 0)) b ∙ take-at t (drop (length t) old) (n - 0) m ∙ made) ∙ sym (put-in e)
+        let few : length (take (w .count) (w .letters)) ≤ mostKeys = simp length-take (omega (arith, few-letters w e)) in
+        ap (λ (n : ℕ). textOut (take n (w .letters)) (w .tone) out) m ∙ few-enough (take (w .count) (w .letters)) (w .tone) out few ∙ ap (λ (l : List ℕ). put l out) (text-of w e) ∙ sym put-in

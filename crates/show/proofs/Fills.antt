@@ -21,6 +21,13 @@ three-at-most (Two a b) = lit≤ tt
 three-at-most (Three a b c) = lit≤ tt
 three-at-most NoLetter = lit≤ tt
 
+pub three-each : (p : Place) (t i : ℕ) (ns : List ℕ) → length (textFrom p t i ns) ≤ 3 * length ns
+three-each p t i [] = omega arith
+three-each p t i (n ∷ ns) =
+    let here = three-at-most (written n (toneOn p t i)) in
+    let more = three-each p t (suc i) ns in
+    simp length-append (omega arith)
+
 -- so far: the text in front, the rest as it was
 pub record SoFar (p : Place) (t : ℕ) (letters old : List ℕ) (i at : ℕ) (text : List ℕ) : Type 0 where
   pub passed : i ≤ length letters

@@ -1,12 +1,18 @@
--- How the code makes a word's text: letter by letter, each with its tone. The crate's proofs show that it is what `shown` says.
+-- The text of letters' numbers, made letter by letter, each with its tone, and what comes back of it with a lent output. The crate's proofs show that for a word in range it is what `shown` says.
 use mathlib.Core.Bool.{Bool, true, false}
-use mathlib.Core.List.{List, [], _∷_, _++_}
+use mathlib.Core.List.{List, [], _∷_, _++_, map}
 use Prim.Native.Nat.{ℕ, suc}
-use lib.Dec.{eqb}
+use lib.Dec.{eqb, ltb}
+use lib.ListN.{length}
 use Rattle.rules.specs.Letters.{noTone}
+use Rattle.rules.specs.TheWord.{letter, mostKeys}
+use Rattle.rules.specs.TonePlace.{tonePlace}
+use Rattle.rules.specs.WhatComesBack.{Written}
 use Rattle.letters.specs.Writing.{listOf, written}
+use Rattle.output.specs.Front.{put}
 use Rattle.rules.specs.declared.Place.{Place}
 use Rattle.rules.specs.declared.Place.the-variants.{At, Nowhere}
+use Rattle.rules.specs.declared.WriteAnswer.the-variants.{Refused}
 
 -- the tone on the letter at a place of the word
 abbrev pub toneOn : Place → ℕ → ℕ → ℕ
@@ -17,3 +23,15 @@ toneOn Nowhere t i = noTone
 abbrev pub textFrom : Place → ℕ → ℕ → List ℕ → List ℕ
 textFrom p t i [] = []
 textFrom p t i (n ∷ ns) = listOf (written n (toneOn p t i)) ++ textFrom p t (suc i) ns
+
+-- the bytes of letters' numbers, with the tone on the one at its place
+abbrev pub textOf : List ℕ → ℕ → List ℕ
+textOf ns t = textFrom (tonePlace (map letter ns) t) t 0 ns
+
+-- put into the output; of more than 32 letters there is none, refusal 2 with 32
+abbrev pub textUnless : Bool → List ℕ → ℕ → List ℕ → Written
+textUnless true ns t out = record { answer = Refused (record { number = 2; value = mostKeys }); output = out }
+textUnless false ns t out = put (textOf ns t) out
+
+unfoldable pub textOut : List ℕ → ℕ → List ℕ → Written
+textOut ns t out = textUnless (ltb mostKeys (length ns)) ns t out

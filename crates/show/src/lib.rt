@@ -1,15 +1,12 @@
 // Show: the text of a word, its tone on the letter at its place, in precomposed UTF-8.
 ghost use mathlib.Core.Path.{_≡_};
-ghost use mathlib.Core.List.{map};
 ghost use Prim.Native.Nat.{_+_, _*_, _≤_};
-ghost use lib.Dec.{T};
 ghost use lib.ListN.{length};
 ghost use lib.Seq.{sets};
-ghost use Rattle.rules.specs.TheWord.{atFront, letter};
-ghost use Rattle.rules.specs.CodePoints.{bytes as bytesOf, signsAt};
+ghost use Rattle.rules.specs.TheWord.{atFront};
 ghost use Rattle.rules.specs.WhatComesBack.{show as showOf};
 ghost use Rattle.letters.specs.Writing.{listOf};
-ghost use Rattle.show.specs.Filling.{toneOn, textFrom};
+ghost use Rattle.show.specs.Filling.{toneOn, textFrom, textOut};
 use letters::LetterBytes;
 use rules::NO_TONE;
 use rules::Place;
@@ -67,6 +64,23 @@ fn fill(text: &mut [u8], letters: &[u16], place: Place, tone: u8) -> usize
     at
 }
 
+// The text of letters with the tone on the one at its place, at the front of the output. A number that is no letter shows nothing.
+// Refusals: 2 with 32 where there are more than 32 letters, then 4 with the bytes needed; the output is then as it was.
+pub fn text(letters: &[u16], tone: u8, out: &mut [u8]) -> WriteAnswer
+    ensures { λ r. ⌜ (r ≡ textOut (now (letters .entry)) tone (now (out .entry)) .answer) × (now (out .exit) ≡ textOut (now (letters .entry)) tone (now (out .entry)) .output) ⌝ }
+{
+    if Word::KEYS < letters.len() {
+        return WriteAnswer::Refused(Refusal {
+            number: 2,
+            value: Word::KEYS,
+        });
+    }
+    let place = syllable::tone_place(letters, tone);
+    let mut made = [0; Word::TEXT];
+    let needed = fill(&mut made, letters, place, tone);
+    output::write(&made[0..needed], out)
+}
+
 // The word as text at the front of the output. Refusals: 8, then 4 with the bytes needed; the output is then as it was.
 pub fn show(w: Word, out: &mut [u8]) -> WriteAnswer
     ensures { λ r. ⌜ (r ≡ showOf w (now (out .entry)) .answer) × (now (out .exit) ≡ showOf w (now (out .entry)) .output) ⌝ }
@@ -79,9 +93,5 @@ pub fn show(w: Word, out: &mut [u8]) -> WriteAnswer
     }
     let letters = w.letters;
     let count = w.count as usize;
-    let word = &letters[0..count];
-    let place = syllable::tone_place(word, w.tone);
-    let mut text = [0; Word::TEXT];
-    let needed = fill(&mut text, word, place, w.tone);
-    output::write(&text[0..needed], out)
+    text(&letters[0..count], w.tone, out)
 }

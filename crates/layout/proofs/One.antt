@@ -1,0 +1,16 @@
+-- One possible result: any two results that a contract allows at the same arguments are equal, and so are the buffers.
+use mathlib.Core.Path.{_≡_, sym, _∙_}
+use contract.Lifetimes.{Lfts}
+use denote.Ref.{now}
+use denote.Triple.Entry.{Args, Res}
+use denote.Triple.Clauses.{AtExit}
+use Rattle.layout.proofs.read as read
+use Rattle.layout.proofs.read.Reads as read-reads
+use Rattle.layout.proofs.write as write
+use Rattle.layout.proofs.write.Reads as write-reads
+
+pub read-one : (κs : Lfts 1) (a : Args read.signature κs) (r r′ : Res read.signature κs) (e e′ : AtExit read.ended κs) → read-reads.Post κs a r e → read-reads.Post κs a r′ e′ → r ≡ r′
+read-one κs a r r′ e e′ p p′ = p ∙ sym p′
+
+pub write-one : (κs : Lfts 1) (a : Args write.signature κs) (r r′ : Res write.signature κs) (e e′ : AtExit write.ended κs) → write-reads.Post κs a r e → write-reads.Post κs a r′ e′ → (r ≡ r′) × (now (e .1 .0) ≡ now (e′ .1 .0))
+write-one κs a r r′ e e′ p p′ = (p .0 ∙ sym (p′ .0), p .1 ∙ sym (p′ .1))

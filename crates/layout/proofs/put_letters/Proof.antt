@@ -1,0 +1,46 @@
+-- `layout::put_letters` meets its contract. The loop's invariant: the pairs of the first letters are written.
+use mathlib.Core.Path.{_≡_, refl, sym, _∙_}
+use Prim.Native.Nat.{_-_}
+use native.Mathlib.Omega.{arith}
+use lib.ListN.{length, length-set}
+use borrow.Author.Needs.{needs}
+use Rattle.layout.proofs.Pairs.{WrittenSoFar, write-on, all-written}
+use Rattle.layout.proofs.put_letters.Statement.{statement}
+use Rattle.layout.proofs.put_letters.Tie as tie
+
+abbrev Inv-loop : tie.InvT-loop
+Inv-loop out₀ letters i₀ out i = WrittenSoFar letters i out
+
+abbrev μ-loop : tie.MeasureT-loop
+μ-loop out₀ letters i₀ out i = 32 - i
+
+pub put-letters-spec : {M : Type 1} → statement M
+put-letters-spec =
+    tie.close
+    (tie.spec Inv-loop μ-loop
+    (λ c. record { passed = omega arith; long = c .before .pre; front = refl })
+    (λ c. omega (arith, c .loop-test .taken))
+    (λ c. c .loop-test .taken)
+    (λ c κs. search needs)
+    (λ c. omega (arith, c .before .loop-test .taken))
+    (λ c. omega (arith, c .before .loop-test .taken, c .before .before .loop .inv .long))
+    (λ c. omega (arith, c .before .loop-test .taken))
+    (λ c. c .before .loop-test .taken)
+    (λ c κs. search needs)
+    (λ c. omega (arith, c .before .before .loop-test .taken))
+    (λ c. omega (arith, c .before .before .loop-test .taken))
+    (λ c. simp length-set (omega (arith, c .before .before .loop-test .taken, c .before .before .before .loop .inv .long)))
+    (λ c. omega (arith, c .before .before .loop-test .taken))
+    (λ c. omega (arith, c .before .before .loop-test .taken))
+    (λ c.
+    let turn = c .before .before in
+    let loop = turn .before in
+    let letters = loop .before .before .args .t1 in
+    let places : length letters ≡ 32 = search needs in
+    write-on letters places (loop .loop .i) (c .before .low .result) (c .high .result) (loop .loop .out) (loop .loop .inv) (turn .loop-test .taken) (c .before .low .ensures) (c .high .ensures))
+    (λ c. c .before .loop .inv .long ∙ sym (c .before .before .before .pre))
+    (λ c.
+    let loop = c .before in
+    let letters = loop .before .before .args .t1 in
+    let places : length letters ≡ 32 = search needs in
+    all-written letters places (loop .loop .i) (loop .loop .out) (loop .loop .inv) (c .loop-test .left)))

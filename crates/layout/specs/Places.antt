@@ -1,0 +1,73 @@
+-- The word's record as 104 bytes at fixed places, and read back.
+use mathlib.Core.Bool.{Bool, true, false, _&&_, _||_}
+use mathlib.Core.List.{List, [], _∷_, _++_}
+use Prim.Native.Nat.{ℕ, _+_, _*_, _/_, _%_}
+use lib.Dec.{eqb}
+use lib.ListN.{length, getD, take, drop}
+use Rattle.rules.specs.Letters.{telex}
+use Rattle.rules.specs.TheWord.{newWord}
+use Rattle.rules.specs.declared.Word.{Word}
+use Rattle.layout.specs.declared.Reading.{Reading}
+
+-- numbers as two bytes each, low byte first; and read back
+abbrev pub pairs : List ℕ → List ℕ
+pairs [] = []
+pairs (n ∷ ns) = n % 256 ∷ n / 256 ∷ pairs ns
+
+abbrev pub numbers : List ℕ → List ℕ
+numbers [] = []
+numbers (a ∷ []) = []
+numbers (a ∷ b ∷ bs) = (a + 256 * b) ∷ numbers bs
+
+-- open 0, closed 1
+abbrev pub markByte : Bool → ℕ
+markByte true = 1
+markByte false = 0
+
+-- 0 mode, 1 count of letters, 2 tone, 3 mark, 4 keys typed, 5 acted, 6 undone, 7 appended, 8 to 39 the keys, 40 to 103 the letters
+abbrev pub asBytes : Word → List ℕ
+asBytes w =
+    w .mode ∷ w .count ∷ w .tone ∷ markByte (w .closed) ∷ w .typed ∷ w .acted ∷ w .undone ∷ w .appended ∷ w .keys ++ pairs (w .letters)
+
+abbrev pub byte : ℕ → List ℕ → ℕ
+byte place bs = getD bs place 0
+
+abbrev pub wordIn : List ℕ → Word
+wordIn bs =
+    record {
+      mode = byte 0 bs;
+      letters = numbers (take 64 (drop 40 bs));
+      count = byte 1 bs;
+      tone = byte 2 bs;
+      closed = eqb (byte 3 bs) 1;
+      keys = take 32 (drop 8 bs);
+      typed = byte 4 bs;
+      acted = byte 5 bs;
+      undone = byte 6 bs;
+      appended = byte 7 bs;
+    }
+
+-- 104 bytes, with a mark of 0 or 1
+abbrev pub isLong : List ℕ → Bool
+isLong bs = eqb (length bs) 104
+
+abbrev pub isMark : ℕ → Bool
+isMark n = eqb n 0 || eqb n 1
+
+abbrev pub noRecord : Reading
+noRecord = record { is_record = false; word = newWord telex }
+
+abbrev pub recordIf : Bool → List ℕ → Reading
+recordIf true bs = record { is_record = true; word = wordIn bs }
+recordIf false bs = noRecord
+
+unfoldable pub asRecord : List ℕ → Reading
+asRecord bs = recordIf (isLong bs && isMark (byte 3 bs)) bs
+
+-- a buffer of 104 bytes with a record written into it; another is left as it was
+abbrev pub writtenIf : Bool → Word → List ℕ → List ℕ
+writtenIf true w old = asBytes w
+writtenIf false w old = old
+
+unfoldable pub written : Word → List ℕ → List ℕ
+written w old = writtenIf (isLong old) w old

@@ -1,0 +1,123 @@
+// The word's record as 104 bytes at fixed places, as C lends it: no struct and no bool crosses.
+// 0 mode, 1 count of letters, 2 tone, 3 closed mark (0 open, 1 closed), 4 keys typed, 5 acted, 6 undone, 7 appended,
+// 8 to 39 the keys, 40 to 103 the letters, two bytes each, low byte first.
+ghost use mathlib.Core.Path.{_≡_};
+ghost use Prim.Native.Nat.{_+_, _*_, _/_, _%_};
+ghost use lib.ListN.{length};
+ghost use Rattle.layout.specs.Places.{pairs, numbers, isLong, noRecord, asRecord, written};
+use rules::Word;
+
+pub const LENGTH: usize = 104;
+
+// What bytes are: a record or none, and the word then; a new Telex word where they are none.
+pub struct Reading {
+    pub is_record: bool,
+    pub word: Word,
+}
+
+fn no_record() -> Reading
+    ensures { λ r. ⌜ r ≡ noRecord ⌝ }
+{
+    Reading {
+        is_record: false,
+        word: Word::telex(),
+    }
+}
+
+fn number(low: u8, high: u8) -> u16
+    ensures { λ r. ⌜ r ≡ low + 256 * high ⌝ }
+{
+    low as u16 + 256 * high as u16
+}
+
+// The letters' numbers, two bytes each.
+fn letters_in(pairs: &[u8]) -> [u16; 32]
+    requires { ⌜ length (now pairs) ≡ 64 ⌝ }
+    ensures { λ r. ⌜ r ≡ numbers (now (pairs .entry)) ⌝ }
+{
+    let mut letters = [0; 32];
+    let mut i = 0;
+    while i < 32 {
+        letters[i] = number(pairs[2 * i], pairs[2 * i + 1]);
+        i += 1;
+    }
+    letters
+}
+
+fn low(n: u16) -> u8
+    ensures { λ r. ⌜ r ≡ n % 256 ⌝ }
+{
+    (n % 256) as u8
+}
+
+fn high(n: u16) -> u8
+    ensures { λ r. ⌜ r ≡ n / 256 ⌝ }
+{
+    (n / 256) as u8
+}
+
+// The bytes of the letters' numbers.
+fn put_letters(letters: [u16; 32], out: &mut [u8])
+    requires { ⌜ length (now out) ≡ 64 ⌝ }
+    ensures { λ _. ⌜ now (out .exit) ≡ pairs letters ⌝ }
+{
+    let mut i = 0;
+    while i < 32 {
+        out[2 * i] = low(letters[i]);
+        out[2 * i + 1] = high(letters[i]);
+        i += 1;
+    }
+}
+
+// The record that bytes are. None, with a new Telex word, where they are not 104 or the mark is neither 0 nor 1.
+pub fn read(buffer: &[u8]) -> Reading
+    ensures { λ r. ⌜ r ≡ asRecord (now (buffer .entry)) ⌝ }
+{
+    if buffer.len() != LENGTH {
+        return no_record();
+    }
+    let mark = buffer[3];
+    if 1 < mark {
+        return no_record();
+    }
+    let mut keys = [0; 32];
+    bytes::copy(&buffer[8..40], &mut keys);
+    let letters = letters_in(&buffer[40..LENGTH]);
+    Reading {
+        is_record: true,
+        word: Word {
+            mode: buffer[0],
+            letters: letters,
+            count: buffer[1],
+            tone: buffer[2],
+            closed: mark == 1,
+            keys: keys,
+            typed: buffer[4],
+            acted: buffer[5],
+            undone: buffer[6],
+            appended: buffer[7],
+        },
+    }
+}
+
+// The record's bytes. False, and nothing written, where there is not room for exactly 104.
+pub fn write(w: Word, buffer: &mut [u8]) -> bool
+    ensures { λ r. ⌜ (r ≡ isLong (now (buffer .entry))) × (now (buffer .exit) ≡ written w (now (buffer .entry))) ⌝ }
+{
+    if buffer.len() != LENGTH {
+        return false;
+    }
+    buffer[0] = w.mode;
+    buffer[1] = w.count;
+    buffer[2] = w.tone;
+    buffer[3] = w.closed as u8;
+    buffer[4] = w.typed;
+    buffer[5] = w.acted;
+    buffer[6] = w.undone;
+    buffer[7] = w.appended;
+    let keys = w.keys;
+    bytes::copy(&keys, &mut buffer[8..40]);
+    let letters = w.letters;
+    put_letters(letters, &mut buffer[40..LENGTH]);
+    true
+}

@@ -75,7 +75,7 @@ pub fn text(letters: &[u16], tone: u8, out: &mut [u8]) -> WriteAnswer
             value: Word::KEYS,
         });
     }
-    let place = syllable::tone_place(letters, tone);
+    let place = parts::tone_place(letters, tone);
     let mut made = [0; Word::TEXT];
     let needed = fill(&mut made, letters, place, tone);
     output::write(&made[0..needed], out)

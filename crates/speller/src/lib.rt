@@ -120,7 +120,7 @@ fn fault(r: Reading, letters: &[u16]) -> u8
         return verdict;
     }
     let place = r.place;
-    if same_place(place, syllable::tone_place(letters, r.tone)) {
+    if same_place(place, parts::tone_place(letters, r.tone)) {
         return 0;
     }
     9
@@ -131,7 +131,7 @@ fn key_of_letter(x: u16) -> u8
     requires { ⌜ 32 ≤ letter x .base ⌝ }
     ensures { λ r. ⌜ r ≡ keyOfLetter (letter x) ⌝ }
 {
-    let base = syllable::base(x);
+    let base = parts::base(x);
     if x / CAPITAL % 2 == 1 {
         return base - 32;
     }
@@ -142,10 +142,10 @@ fn key_of_letter(x: u16) -> u8
 fn shape_key(mode: u8, x: u16) -> u8
     ensures { λ r. ⌜ r ≡ shapeKey mode (letter x) ⌝ }
 {
-    let shape = syllable::shape(x);
+    let shape = parts::shape(x);
     if mode == Word::TELEX {
         match shape {
-            CIRCUMFLEX => syllable::base(x),
+            CIRCUMFLEX => parts::base(x),
             HORN => b'w',
             BREVE => b'w',
             STROKE => b'd',
@@ -214,7 +214,7 @@ fn put_letter(mode: u8, letters: &[u16], i: usize, keys: &mut [u8], at: usize) -
     let own = key_of_letter(x);
     let mark = shape_key(mode, x);
     keys[at] = own;
-    if (syllable::shape(x) == PLAIN) | awaits_o(letters, i) {
+    if (parts::shape(x) == PLAIN) | awaits_o(letters, i) {
         return at + 1;
     }
     keys[at + 1] = mark;

@@ -45,7 +45,7 @@ fn at(letters: [u16; 32], count: usize, i: usize, kind: u8) -> Edited
     requires { ⌜ Aimed letters count i kind ⌝ }
     ensures { λ r. ⌜ r ≡ editedOf letters (askedOf kind (oneAt kind (Place.At i) (map letter (take count letters)))) ⌝ }
 {
-    if syllable::shape(letters[i]) == kind {
+    if parts::shape(letters[i]) == kind {
         return Edited {
             edit: Edit::Off,
             letters: targets::reshaped_at(letters, i, PLAIN),
@@ -60,7 +60,7 @@ fn both(letters: [u16; 32], count: usize, i: usize) -> Edited
     ensures { λ r. ⌜ r ≡ editedOf letters (askedOf horn (pairAt (Place.At i) (map letter (take count letters)))) ⌝ }
 {
     let j = i + 1;
-    if (syllable::shape(letters[i]) == HORN) & (syllable::shape(letters[j]) == HORN) {
+    if (parts::shape(letters[i]) == HORN) & (parts::shape(letters[j]) == HORN) {
         return Edited {
             edit: Edit::Off,
             letters: targets::reshaped_at(targets::reshaped_at(letters, i, PLAIN), j, PLAIN),

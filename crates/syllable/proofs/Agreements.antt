@@ -11,8 +11,8 @@ use borrow.Author.Tests.{ne-eqb, eqb-true}
 use Rattle.rules.specs.Letters.{Letter, Letters, plain}
 use Rattle.rules.specs.TakingApart.{agreesAt, agrees}
 use Rattle.syllable.specs.Numbers.{digit, num, more, code, small, Codes, short, Numbers, plainOf, agreeDigit}
-use Rattle.syllable.proofs.Bools.{ifSo, T-true, only, never, and-false, and-if}
-use Rattle.syllable.proofs.Codes.{T-lt, eqb-case, Small, small-head, small-tail, digit-base, is-digit}
+use Rattle.parts.proofs.Bools.{ifSo, T-true, only, never, and-false, and-if, eqb-case}
+use Rattle.syllable.proofs.Codes.{T-lt, Small, small-head, small-tail, digit-base, is-digit}
 
 -- one letter: it is the nucleus's letter, or that letter without its shape
 either : (b s p : Bool) → ((b && s) || (b && p)) ≡ (b && (p || s))

@@ -12,15 +12,7 @@ use Rattle.rules.specs.Letters.{Letter, Letters, elem, word, is, same, oneOf, i
 use Rattle.rules.specs.TakingApart.{twoOrMore}
 use Rattle.rules.specs.TheWord.{letter}
 use Rattle.syllable.specs.Numbers.{digit, digitAt, num, nums, more, code, small, Codes, short, Numbers}
-use Rattle.syllable.proofs.Bools.{pick, ifSo, T-true, only, or-if}
-
--- a case on a test of two numbers
-pub eqb-case : (P : Bool → Type 0) (a b : ℕ) → (a ≡ b → P true) → ((a ≡ b → ⊥) → P false) → P (eqb a b)
-eqb-case P a b y n = go (eqb a b) refl
-  where
-    go : (t : Bool) → eqb a b ≡ t → P t
-    go true e = y (eqb-true a b e)
-    go false e = n (eqb-false a b e)
+use Rattle.parts.proofs.Bools.{pick, ifSo, T-true, only, or-if, eqb-case}
 
 pub T-lt : (a b : ℕ) → T (ltb a b) → a < b
 T-lt a b t = ltb-true a b (T-true (ltb a b) t)

@@ -8,8 +8,8 @@ use lib.Dec.{T, ltb}
 use lib.Ieee.Fits.{and-l, and-r}
 use Rattle.rules.specs.Letters.{Letters, elem, oneOf}
 use Rattle.syllable.specs.Numbers.{nums, Codes}
-use Rattle.syllable.proofs.Bools.{T-true}
-use Rattle.syllable.proofs.Codes.{eqb-case, shorts, one-is}
+use Rattle.parts.proofs.Bools.{T-true, eqb-case}
+use Rattle.syllable.proofs.Codes.{shorts, one-is}
 
 -- a number is one of the keys of an arm
 abbrev pub Key : ℕ → List ℕ → Type 0

@@ -1,13 +1,9 @@
-pub mod Bools
 pub mod Codes
+pub mod Small
 pub mod Keys
-pub mod Runs
-pub mod Glides
-pub mod Splits
 pub mod Rows
 pub mod Agreements
 pub mod Bases
 pub mod Searches
 pub mod Sights
-pub mod Places
 pub mod One

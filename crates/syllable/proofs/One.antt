@@ -3,29 +3,12 @@ use mathlib.Core.Path.{_≡_, sym, _∙_}
 use contract.Lifetimes.{Lfts}
 use denote.Triple.Entry.{Args, Res}
 use denote.Triple.Clauses.{AtExit}
-use Rattle.syllable.proofs.base as base
-use Rattle.syllable.proofs.base.Reads as base-reads
-use Rattle.syllable.proofs.shape as shape
-use Rattle.syllable.proofs.shape.Reads as shape-reads
-use Rattle.syllable.proofs.apart as apart
-use Rattle.syllable.proofs.apart.Reads as apart-reads
 use Rattle.syllable.proofs.verdict as verdict
 use Rattle.syllable.proofs.verdict.Reads as verdict-reads
 use Rattle.syllable.proofs.admitted as admitted
 use Rattle.syllable.proofs.admitted.Reads as admitted-reads
 use Rattle.syllable.proofs.fits as fits
 use Rattle.syllable.proofs.fits.Reads as fits-reads
-use Rattle.syllable.proofs.tone_place as tone-place
-use Rattle.syllable.proofs.tone_place.Reads as tone-place-reads
-
-pub base-one : (κs : Lfts 0) (a : Args base.signature κs) (r r′ : Res base.signature κs) (e e′ : AtExit base.ended κs) → base-reads.Post κs a r e → base-reads.Post κs a r′ e′ → r ≡ r′
-base-one κs a r r′ e e′ p p′ = p ∙ sym p′
-
-pub shape-one : (κs : Lfts 0) (a : Args shape.signature κs) (r r′ : Res shape.signature κs) (e e′ : AtExit shape.ended κs) → shape-reads.Post κs a r e → shape-reads.Post κs a r′ e′ → r ≡ r′
-shape-one κs a r r′ e e′ p p′ = p ∙ sym p′
-
-pub apart-one : (κs : Lfts 1) (a : Args apart.signature κs) (r r′ : Res apart.signature κs) (e e′ : AtExit apart.ended κs) → apart-reads.Post κs a r e → apart-reads.Post κs a r′ e′ → r ≡ r′
-apart-one κs a r r′ e e′ p p′ = p ∙ sym p′
 
 pub verdict-one : (κs : Lfts 1) (a : Args verdict.signature κs) (r r′ : Res verdict.signature κs) (e e′ : AtExit verdict.ended κs) → verdict-reads.Post κs a r e → verdict-reads.Post κs a r′ e′ → r ≡ r′
 verdict-one κs a r r′ e e′ p p′ = p ∙ sym p′
@@ -35,6 +18,3 @@ admitted-one κs a r r′ e e′ p p′ = p ∙ sym p′
 
 pub fits-one : (κs : Lfts 1) (a : Args fits.signature κs) (r r′ : Res fits.signature κs) (e e′ : AtExit fits.ended κs) → fits-reads.Post κs a r e → fits-reads.Post κs a r′ e′ → r ≡ r′
 fits-one κs a r r′ e e′ p p′ = p ∙ sym p′
-
-pub tone-place-one : (κs : Lfts 1) (a : Args tone-place.signature κs) (r r′ : Res tone-place.signature κs) (e e′ : AtExit tone-place.ended κs) → tone-place-reads.Post κs a r e → tone-place-reads.Post κs a r′ e′ → r ≡ r′
-tone-place-one κs a r r′ e e′ p p′ = p ∙ sym p′

@@ -11,7 +11,7 @@ use Rattle.rules.specs.Letters.{Letters, elem, oneOf, isNil}
 use Rattle.rules.specs.TakingApart.{Row, rows}
 use Rattle.syllable.specs.Numbers.{nums, Codes}
 use Rattle.syllable.specs.Nuclei.{noRow, rowIn, rowOf, inRow}
-use Rattle.syllable.proofs.Bools.{pick, T-true, and-false}
+use Rattle.parts.proofs.Bools.{pick, T-true, and-false}
 use Rattle.syllable.proofs.Codes.{shorts, one-is}
 use Rattle.syllable.proofs.Keys.{Key, keys, every, holds, Rest, NoKey, rest, inArm, isIn, no-elem, is-one, no-one}
 

@@ -12,8 +12,8 @@ use Rattle.rules.specs.Letters.{Letters, elem, word, same, some, oneOf, isNil}
 use Rattle.rules.specs.TakingApart.{Row, rows, someRow, isThis, couldBe, listed, someAgrees, stands, takes, agrees}
 use Rattle.syllable.specs.Numbers.{num, nums, code, Codes, short, Numbers, plainOf}
 use Rattle.syllable.specs.Nuclei.{nucleiOf, noRow, rowIn, rowOf, withBasesIn, withBases}
-use Rattle.syllable.proofs.Bools.{pick, ifSo, T-true, only, and-false, or-if}
-use Rattle.syllable.proofs.Codes.{eqb-case, shorts, same-is, one-is, codes}
+use Rattle.parts.proofs.Bools.{pick, ifSo, T-true, only, and-false, or-if, eqb-case}
+use Rattle.syllable.proofs.Codes.{shorts, same-is, one-is, codes}
 use Rattle.syllable.proofs.Rows.{rowNumber, row, row-is}
 use Rattle.syllable.proofs.Agreements.{agree-is, bases}
 

@@ -9,10 +9,10 @@ use Rattle.rules.specs.Letters.{Letters, isNil, oneOf, firstBase}
 use Rattle.rules.specs.TheWord.{letter}
 use Rattle.rules.specs.TakingApart.{initial, nucleus, final, leftovers, initials, finals, fit, fits, listed, someAgrees, Check, check, firstThatHolds, oneToFive, sixAndSeven, verdict, admitted}
 use Rattle.syllable.specs.Numbers.{Codes}
-use Rattle.syllable.specs.Parts.{seenOf}
+use Rattle.syllable.specs.Checks.{seenOf}
 use Rattle.syllable.specs.declared.Seen.{Seen}
-use Rattle.syllable.proofs.Bools.{pick}
-use Rattle.syllable.proofs.Splits.{small-parts}
+use Rattle.parts.proofs.Bools.{pick}
+use Rattle.syllable.proofs.Small.{small-parts}
 
 -- the checks after the first five
 five-then : (a b c d e : Bool) (ys : List Check) → let xs = check 1 a ∷ check 2 b ∷ check 3 c ∷ check 4 d ∷ check 5 e ∷ [] in

@@ -1,3 +1,3 @@
 pub mod Numbers
 pub mod Nuclei
-pub mod Parts
+pub mod Checks

@@ -122,7 +122,7 @@ pub fn place(w: Word) -> PlaceAnswer
     }
     let letters = w.letters;
     let count = w.count as usize;
-    PlaceAnswer::Found(syllable::tone_place(&letters[0..count], w.tone))
+    PlaceAnswer::Found(parts::tone_place(&letters[0..count], w.tone))
 }
 
 // The verdict. Refusals: 8.
@@ -169,5 +169,5 @@ fn starts_with_d_stroke(letters: &[u16]) -> bool
         return false;
     }
     let first = letters[0];
-    (syllable::base(first) == b'd') & (syllable::shape(first) == STROKE)
+    (parts::base(first) == b'd') & (parts::shape(first) == STROKE)
 }

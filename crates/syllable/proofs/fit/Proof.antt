@@ -9,7 +9,7 @@ use borrow.Author.Tests.{ne-eqb}
 use Rattle.rules.specs.Letters.{Letters, elem, among, word, words}
 use Rattle.rules.specs.TakingApart.{implies, fit}
 use Rattle.syllable.specs.Numbers.{num, nums, Codes}
-use Rattle.syllable.proofs.Bools.{and-true}
+use Rattle.parts.proofs.Bools.{and-true}
 use Rattle.syllable.proofs.Codes.{same-is, one-is}
 use Rattle.syllable.proofs.Keys.{keys, rest, no-elem}
 use Rattle.syllable.proofs.fit.Statement.{statement}

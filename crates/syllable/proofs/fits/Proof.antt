@@ -3,7 +3,7 @@ use Prim.Native.Nat.{_-_}
 use native.Mathlib.Omega.{arith}
 use lib.ListN.{take, drop}
 use Rattle.syllable.proofs.Codes.{coded}
-use Rattle.syllable.proofs.Splits.{Cut, cut}
+use Rattle.parts.proofs.Splits.{Cut, cut}
 use Rattle.syllable.proofs.fits.Statement.{statement}
 use Rattle.syllable.proofs.fits.Tie as tie
 

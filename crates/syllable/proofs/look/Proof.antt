@@ -9,10 +9,10 @@ use Rattle.rules.specs.Letters.{Letters}
 use Rattle.rules.specs.TheWord.{letter}
 use Rattle.rules.specs.TakingApart.{initial, nucleus, final}
 use Rattle.syllable.specs.Numbers.{Codes}
-use Rattle.syllable.specs.Parts.{firstOfFive, seenOf}
-use Rattle.syllable.specs.declared.Parts.{Parts}
+use Rattle.syllable.specs.Checks.{firstOfFive, seenOf}
+use Rattle.parts.specs.declared.Parts.{Parts}
 use Rattle.syllable.proofs.Codes.{coded}
-use Rattle.syllable.proofs.Splits.{Cut, cut}
+use Rattle.parts.proofs.Splits.{Cut, cut}
 use Rattle.syllable.proofs.look.Statement.{statement}
 use Rattle.syllable.proofs.look.Tie as tie
 

@@ -3,7 +3,7 @@ use mathlib.Core.Path.{_∙_}
 use mathlib.Core.Bool.{_&&_, _||_}
 use Rattle.rules.specs.Letters.{word, same, isNil, oneOf}
 use Rattle.syllable.specs.Nuclei.{rowOf}
-use Rattle.syllable.proofs.Bools.{or-assoc}
+use Rattle.parts.proofs.Bools.{or-assoc}
 use Rattle.syllable.proofs.Codes.{same-is}
 use Rattle.syllable.proofs.nuclei.takes.Statement.{statement}
 use Rattle.syllable.proofs.nuclei.takes.Tie as tie

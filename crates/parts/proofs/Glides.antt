@@ -1,4 +1,4 @@
--- qu and gi, on numbers. Assumes nothing.
+-- qu and gi, on numbers.
 use mathlib.Core.Path.{_≡_, refl, sym, ap₂, _∙_}
 use mathlib.Core.Bool.{Bool, false, not, _&&_, _||_}
 use mathlib.Core.List.{List, [], _∷_, map}
@@ -11,8 +11,7 @@ use Prim.Native.Char.{code}
 use Rattle.rules.specs.Letters.{Letters, named, word, is, same, isNil}
 use Rattle.rules.specs.TakingApart.{joins, plainU, iAndAnother}
 use Rattle.rules.specs.TheWord.{letter}
-use Rattle.syllable.proofs.Bools.{only, never, and-false}
-use Rattle.syllable.proofs.Codes.{eqb-case}
+use Rattle.parts.proofs.Bools.{eqb-case, only, never, and-false}
 
 pub not-one : (ns ms : List ℕ) → (length ns ≡ 1 → ⊥) → false ≡ joins (map letter ns) (map letter ms)
 unfolding joins

@@ -1,4 +1,4 @@
--- `syllable::apart` meets its contract. Assumes nothing.
+-- `parts::apart` meets its contract.
 use mathlib.Core.Path.{_≡_, sym, _∙_}
 use mathlib.Core.Bool.{true, false}
 use mathlib.Core.List.{List, map}
@@ -7,10 +7,10 @@ use native.Mathlib.Omega.{arith}
 use lib.ListN.{length}
 use Rattle.rules.specs.TheWord.{letter}
 use Rattle.rules.specs.TakingApart.{before, run, joins as joinsOf}
-use Rattle.syllable.specs.Parts.{partsOf}
-use Rattle.syllable.proofs.Splits.{ends, joins-is, plain, joined}
-use Rattle.syllable.proofs.apart.Statement.{statement}
-use Rattle.syllable.proofs.apart.Tie as tie
+use Rattle.parts.specs.Ends.{partsOf}
+use Rattle.parts.proofs.Splits.{ends, joins-is, plain, joined}
+use Rattle.parts.proofs.apart.Statement.{statement}
+use Rattle.parts.proofs.apart.Tie as tie
 
 -- where the runs end
 module _ (c : tie.After-run-end3) where

@@ -1,4 +1,4 @@
--- The parts of a word as parts of the list of its numbers. Assumes nothing.
+-- The parts of a word as parts of the list of its numbers.
 use mathlib.Core.Path.{_≡_, refl, sym, ap, ap₂, subst, _∙_}
 use mathlib.Core.Bool.{Bool, true, false, _&&_}
 use mathlib.Core.List.{List, [], _∷_, _++_, map, append-assoc}
@@ -13,11 +13,9 @@ use Rattle.rules.specs.Letters.{Letters, isNil}
 use Rattle.rules.specs.TakingApart.{isKind, front, frontIf, past, pastIf, before, run, joins, initialOf, nucleusOf, initial, nucleus, final, leftovers}
 use Rattle.rules.specs.TheWord.{letter}
 use Rattle.rules.proofs.Wholes.{split, halves, whole}
-use Rattle.syllable.specs.Numbers.{small}
-use Rattle.syllable.specs.Parts.{partsOf}
-use Rattle.syllable.specs.declared.Parts.{Parts}
-use Rattle.syllable.proofs.Codes.{small-letters, small-tail}
-use Rattle.syllable.proofs.Glides.{joins-none}
+use Rattle.parts.specs.Ends.{partsOf}
+use Rattle.parts.specs.declared.Parts.{Parts}
+use Rattle.parts.proofs.Glides.{joins-none}
 
 map-take : (n : ℕ) (s : List ℕ) → map letter (take n s) ≡ take n (map letter s)
 map-take zero s = refl
@@ -68,22 +66,6 @@ cut s r e =
       fin = part s (r .nucleus) (r .end) (initial w ++ nucleus w) (final w) (leftovers w) (append-assoc (initial w) (nucleus w) (final w ++ leftovers w) ∙ whole w) (en ∙ sym (length-append (initial w) (nucleus w))) (ef ∙ ap (λ (n : ℕ). n + length (final w)) (sym (length-append (initial w) (nucleus w))));
       left = nil-length (leftovers w) (r .end) (length s) (omega arith);
     }
-
--- the parts have codes, as letters that are read off numbers do
-small-front : (a b : Letters) → T (small (a ++ b)) → T (small a)
-small-front [] b t = tt
-small-front (x ∷ xs) b t = and-i (ltb (x .base) 256 && ltb (x .shape) 8) (small xs) (and-l (ltb (x .base) 256 && ltb (x .shape) 8) (small (xs ++ b)) t) (small-front xs b (small-tail x (xs ++ b) t))
-
-small-back : (a b : Letters) → T (small (a ++ b)) → T (small b)
-small-back [] b t = t
-small-back (x ∷ xs) b t = small-back xs b (small-tail x (xs ++ b) t)
-
-pub small-parts : (s : List ℕ) → T (small (initial (map letter s))) × T (small (nucleus (map letter s))) × T (small (final (map letter s)))
-small-parts s =
-    let w = map letter s in
-    let one : T (small (initial w ++ (nucleus w ++ (final w ++ leftovers w)))) = subst (λ (l : Letters). T (small l)) (sym (whole w)) (small-letters s) in
-    let two = small-back (initial w) (nucleus w ++ (final w ++ leftovers w)) one in
-    (small-front (initial w) (nucleus w ++ (final w ++ leftovers w)) one, small-front (nucleus w) (final w ++ leftovers w) two, small-front (final w) (leftovers w) (small-back (nucleus w) (final w ++ leftovers w) two))
 
 -- where the runs end, and so the parts
 module _ (s : List ℕ) (o v f : ℕ) (eo : o ≡ 0 + length (front false (map letter (drop 0 s)))) (ev : v ≡ o + length (front true (map letter (drop o s)))) (ef : f ≡ v + length (front false (map letter (drop v s)))) where

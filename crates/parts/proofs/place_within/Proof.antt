@@ -1,12 +1,12 @@
--- `syllable::place_within` meets its contract. The loop's invariant: no letter from here on is shaped. Assumes nothing.
+-- `parts::place_within` meets its contract. The loop's invariant: no letter from here on is shaped.
 use mathlib.Core.Path.{_≡_, sym, ap, _∙_}
 use mathlib.Core.Option.{none}
 use Prim.Native.Nat.{ℕ, _-_, _≤_}
 use native.Mathlib.Omega.{arith}
 use lib.ListN.{length}
-use Rattle.syllable.proofs.Places.{lastFrom, at-end, not-here, is-here, single, shaped, counted}
-use Rattle.syllable.proofs.place_within.Statement.{statement}
-use Rattle.syllable.proofs.place_within.Tie as tie
+use Rattle.parts.proofs.Places.{lastFrom, at-end, not-here, is-here, single, shaped, counted}
+use Rattle.parts.proofs.place_within.Statement.{statement}
+use Rattle.parts.proofs.place_within.Tie as tie
 
 abbrev Inv-loop : tie.InvT-loop
 Inv-loop nuc ends i₀ i = (i ≤ length nuc) × (lastFrom i nuc ≡ none)

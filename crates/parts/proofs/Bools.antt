@@ -1,7 +1,9 @@
--- Truth values, and choices by them. Assumes nothing.
+-- Truth values, and choices by them.
 use mathlib.Core.Path.{_≡_, refl}
 use mathlib.Core.Bool.{Bool, true, false, _&&_, _||_}
-use lib.Dec.{T}
+use Prim.Native.Nat.{ℕ}
+use borrow.Author.Tests.{eqb-true, eqb-false}
+use lib.Dec.{T, eqb}
 
 -- x where the test holds, else y
 abbrev pub pick : {A : Type 0} → A → Bool → A → A
@@ -41,3 +43,11 @@ or-if false b = refl
 pub or-assoc : (a b c : Bool) → ((a || b) || c) ≡ (a || (b || c))
 or-assoc true b c = refl
 or-assoc false b c = refl
+
+-- a case on a test of two numbers
+pub eqb-case : (P : Bool → Type 0) (a b : ℕ) → (a ≡ b → P true) → ((a ≡ b → ⊥) → P false) → P (eqb a b)
+eqb-case P a b y n = go (eqb a b) refl
+  where
+    go : (t : Bool) → eqb a b ≡ t → P t
+    go true e = y (eqb-true a b e)
+    go false e = n (eqb-false a b e)

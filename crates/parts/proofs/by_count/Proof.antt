@@ -1,10 +1,10 @@
--- `syllable::by_count` meets its contract. Assumes nothing.
+-- `parts::by_count` meets its contract.
 use mathlib.Core.Path.{sym}
 use native.Mathlib.Omega.{arith}
 use borrow.Author.Tests.{ne-eqb}
-use Rattle.syllable.proofs.Bools.{pick}
-use Rattle.syllable.proofs.by_count.Statement.{statement}
-use Rattle.syllable.proofs.by_count.Tie as tie
+use Rattle.parts.proofs.Bools.{pick}
+use Rattle.parts.proofs.by_count.Statement.{statement}
+use Rattle.parts.proofs.by_count.Tie as tie
 
 pub by-count-spec : {M : Type 1} → statement M
 by-count-spec =

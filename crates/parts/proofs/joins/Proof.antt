@@ -1,8 +1,8 @@
--- `syllable::joins` meets its contract. Assumes nothing.
+-- `parts::joins` meets its contract.
 use native.Mathlib.Omega.{arith}
-use Rattle.syllable.proofs.Glides.{not-one, no-run, joined-is}
-use Rattle.syllable.proofs.joins.Statement.{statement}
-use Rattle.syllable.proofs.joins.Tie as tie
+use Rattle.parts.proofs.Glides.{not-one, no-run, joined-is}
+use Rattle.parts.proofs.joins.Statement.{statement}
+use Rattle.parts.proofs.joins.Tie as tie
 
 pub joins-spec : {M : Type 1} → statement M
 joins-spec =

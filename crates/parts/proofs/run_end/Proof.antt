@@ -1,4 +1,4 @@
--- `syllable::run_end` meets its contract. The loop's invariant: from here the run ends where it ends from the start. Assumes nothing.
+-- `parts::run_end` meets its contract. The loop's invariant: from here the run ends where it ends from the start.
 use mathlib.Core.Path.{_≡_, refl, _∙_}
 use mathlib.Core.List.{map}
 use Prim.Native.Nat.{_+_, _-_}
@@ -6,9 +6,9 @@ use native.Mathlib.Omega.{arith}
 use lib.ListN.{length, drop}
 use Rattle.rules.specs.TheWord.{letter}
 use Rattle.rules.specs.TakingApart.{front}
-use Rattle.syllable.proofs.Runs.{past-all, stops, goes}
-use Rattle.syllable.proofs.run_end.Statement.{statement}
-use Rattle.syllable.proofs.run_end.Tie as tie
+use Rattle.parts.proofs.Runs.{past-all, stops, goes}
+use Rattle.parts.proofs.run_end.Statement.{statement}
+use Rattle.parts.proofs.run_end.Tie as tie
 
 abbrev Inv-loop : tie.InvT-loop
 Inv-loop s from vowels i₀ i = i + length (front vowels (map letter (drop i s))) ≡ from + length (front vowels (map letter (drop from s)))

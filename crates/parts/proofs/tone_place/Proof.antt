@@ -1,11 +1,11 @@
--- `syllable::tone_place` meets its contract. Assumes nothing.
+-- `parts::tone_place` meets its contract.
 use Prim.Native.Nat.{_-_}
 use native.Mathlib.Omega.{arith}
 use lib.ListN.{take, drop, length-take, length-drop}
-use Rattle.syllable.proofs.Splits.{Cut, cut}
-use Rattle.syllable.proofs.Places.{nowhere, somewhere}
-use Rattle.syllable.proofs.tone_place.Statement.{statement}
-use Rattle.syllable.proofs.tone_place.Tie as tie
+use Rattle.parts.proofs.Splits.{Cut, cut}
+use Rattle.parts.proofs.Places.{nowhere, somewhere}
+use Rattle.parts.proofs.tone_place.Statement.{statement}
+use Rattle.parts.proofs.tone_place.Tie as tie
 
 -- the parts that are cut
 parts : (c : tie.After-apart) → Cut (c .before .before .args .s .now) (c .apart .result .initial) (c .apart .result .nucleus) (c .apart .result .end)

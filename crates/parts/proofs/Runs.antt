@@ -1,4 +1,4 @@
--- A run of vowel letters or of others from a place of a list: one turn of the loop, and its two ends. Assumes nothing.
+-- A run of vowel letters or of others from a place of a list: one turn of the loop, and its two ends.
 use mathlib.Core.Path.{_≡_}
 use mathlib.Core.Bool.{Bool, true, false, not, Bool·beq}
 use mathlib.Core.List.{List, map}

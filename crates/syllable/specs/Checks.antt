@@ -1,22 +1,11 @@
--- What the code answers of a word's parts, as equations to document 01's definitions.
+-- What the code answers of the checks on a word's parts, as equations to document 01's definitions.
 use mathlib.Core.Bool.{Bool, not}
 use mathlib.Core.List.{[], _∷_}
-use Prim.Native.Nat.{ℕ, _+_}
-use lib.ListN.{length}
+use Prim.Native.Nat.{ℕ}
 use Rattle.rules.specs.Letters.{Letters, oneOf, isNil, firstBase}
 use Rattle.rules.specs.TakingApart.{initial, nucleus, final, initials, fit, finals, check, firstThatHolds, oneToFive}
 use Rattle.syllable.specs.Numbers.{code}
-use Rattle.syllable.specs.declared.Parts.{Parts}
 use Rattle.syllable.specs.declared.Seen.{Seen}
-
--- where the initial, the nucleus and the final end
-abbrev pub partsOf : Letters → Parts
-partsOf w =
-    record {
-      initial = length (initial w);
-      nucleus = length (initial w) + length (nucleus w);
-      end = length (initial w) + length (nucleus w) + length (final w);
-    }
 
 -- the first of checks 1 to 5 that holds, of the parts
 abbrev pub firstOfFive : (ini nuc fin : Letters) → (leftover : Bool) → ℕ

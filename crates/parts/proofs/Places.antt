@@ -1,4 +1,4 @@
--- Where the tone is shown, by numbers. Assumes nothing.
+-- Where the tone is shown, by numbers.
 use mathlib.Core.Path.{_≡_, refl, sym, ap, ap₂, _∙_}
 use mathlib.Core.Bool.{Bool, true, false, not, _&&_, _||_}
 use mathlib.Core.List.{List, [], _∷_, _++_, map}
@@ -14,11 +14,11 @@ use Rattle.rules.specs.TheWord.{letter}
 use Rattle.rules.specs.TakingApart.{initial, nucleus, final, leftovers}
 use Rattle.rules.specs.TonePlace.{orHere, lastShaped, byCount, orByCount, placeWithin, placeUnless, tonePlace}
 use Rattle.rules.specs.declared.Place.the-variants.{At, Nowhere}
-use Rattle.syllable.specs.Parts.{partsOf}
-use Rattle.syllable.specs.declared.Parts.{Parts}
-use Rattle.syllable.proofs.Bools.{pick}
+use Rattle.parts.specs.Ends.{partsOf}
+use Rattle.parts.specs.declared.Parts.{Parts}
+use Rattle.parts.proofs.Bools.{pick}
 use Rattle.rules.proofs.Wholes.{whole}
-use Rattle.syllable.proofs.Splits.{nil-length}
+use Rattle.parts.proofs.Splits.{nil-length}
 
 -- the last shaped letter of those from a place on
 abbrev pub lastFrom : ℕ → List ℕ → Option ℕ

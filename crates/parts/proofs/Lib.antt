@@ -1,0 +1,6 @@
+pub mod Bools
+pub mod Runs
+pub mod Glides
+pub mod Splits
+pub mod Places
+pub mod One

@@ -1,0 +1,49 @@
+-- `felcantuzza::fz_show` meets its contract: no record, answered or refused.
+use mathlib.Core.Path.{sym, ap, _∙_}
+use borrow.Author.Needs.{needs}
+use borrow.Author.Tests.{not-true, not-false}
+use Rattle.rules.specs.AnswersInNumbers.{writeSays}
+use Rattle.rules.proofs.Refused.{refused-show}
+use Rattle.felcantuzza.specs.Calls as Calls
+use Rattle.felcantuzza.proofs.Tells.{tells, refuses, changed, unchanged, none-shown, shown, shown-output}
+use Rattle.felcantuzza.proofs.fz_show.Statement.{statement}
+use Rattle.felcantuzza.proofs.fz_show.Tie as tie
+
+pub fz-show-spec : {M : Type 1} → statement M
+fz-show-spec =
+    tie.close
+    (tie.spec
+    (λ c κs. search needs)
+    (λ c κs. search needs)
+    (λ c.
+    let no = c .before .before in
+    let read = no .before .before in
+    let args = read .before .before .before .args in
+    let e = none-shown (args .lent .now) (read .read .result) (read .read .ensures) (args .out .now) (not-true _ (no .if1 .taken)) in
+    let t = refuses Calls.single (Calls.show (args .lent .now) (args .out .now)) 8 0 e (c .no-record .ensures .0) (c .no-record .ensures .1) in
+    (t .0, t .1, unchanged (Calls.show (args .lent .now) (args .out .now)) _ (args .out .now) 8 0 e))
+    (λ c κs. search needs)
+    (λ c. search needs)
+    (λ c κs. search needs)
+    (λ c. search needs)
+    (λ c κs. search needs)
+    (λ c. search needs)
+    (λ c.
+    let found = c .before .before .before in
+    let wrote = found .before .before .before .before in
+    let yes = wrote .before .before .before in
+    let read = yes .before .before in
+    let args = read .before .before .before .args in
+    let e = shown (args .lent .now) (read .read .result) (read .read .ensures) (args .out .now) (not-false _ (yes .if1 .left)) (wrote .show .result) _ (wrote .show .ensures .0) (found .bytes .given .1) in
+    let t = tells Calls.single (Calls.show (args .lent .now) (args .out .now)) _ e (c .answered .ensures .0) (c .answered .ensures .1) in
+    (t .0, t .1, wrote .show .ensures .1 ∙ shown-output (args .lent .now) (read .read .result) (read .read .ensures) (args .out .now) ∙ changed (Calls.show (args .lent .now) (args .out .now)) _ (args .out .now) _ e))
+    (λ c. search needs)
+    (λ c.
+    let found = c .before .before .before in
+    let wrote = found .before .before .before .before in
+    let yes = wrote .before .before .before in
+    let read = yes .before .before in
+    let args = read .before .before .before .args in
+    let e = shown (args .lent .now) (read .read .result) (read .read .ensures) (args .out .now) (not-false _ (yes .if1 .left)) (wrote .show .result) _ (wrote .show .ensures .0) (found .refusal .given .1) in
+    let t = refuses Calls.single (Calls.show (args .lent .now) (args .out .now)) _ _ e (c .refused .ensures .0) (c .refused .ensures .1) in
+    (t .0, t .1, wrote .show .ensures .1 ∙ refused-show (read .read .result .word) (args .out .now) _ (ap writeSays (sym (wrote .show .ensures .0) ∙ found .refusal .given .1)) ∙ unchanged (Calls.show (args .lent .now) (args .out .now)) _ (args .out .now) _ _ e)))

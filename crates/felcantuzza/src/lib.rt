@@ -1,0 +1,225 @@
+// What the box links. Each call takes numbers and lent bytes alone: no struct, enum or bool crosses.
+// It returns 0 where it is answered, else the refusal's number; `value` then holds the answer's number, or the refusal's, and is always written.
+// A word's record is lent as the 104 bytes of crate `layout`; bytes that are no record are refusal 8 with 0. A refused call leaves every lent byte as it was.
+use commit::Ruling;
+use press::ShownAnswer;
+use rules::Act;
+use rules::Decision;
+use rules::DecisionAnswer;
+use rules::Outcome;
+use rules::Place;
+use rules::PlaceAnswer;
+use rules::Refusal;
+use rules::StartAnswer;
+use rules::StepAnswer;
+use rules::VerdictAnswer;
+use rules::WriteAnswer;
+ghost use mathlib.Core.Path.{_≡_};
+ghost use Rattle.rules.specs.AnswersInNumbers.{outcomeNumbers, placeNumbers, decisionNumber};
+ghost use Rattle.felcantuzza.specs.Calls as Calls;
+
+fn answered(number: usize, value: &mut usize) -> u8
+    ensures { λ r. ⌜ (r ≡ 0) × (now (value .exit) ≡ number) ⌝ }
+{
+    *value = number;
+    0
+}
+
+fn refused(refusal: Refusal, value: &mut usize) -> u8
+    ensures { λ r. ⌜ (r ≡ refusal .number) × (now (value .exit) ≡ refusal .value) ⌝ }
+{
+    *value = refusal.value;
+    refusal.number
+}
+
+fn no_record(value: &mut usize) -> u8
+    ensures { λ r. ⌜ (r ≡ 8) × (now (value .exit) ≡ 0) ⌝ }
+{
+    *value = 0;
+    8
+}
+
+fn act_number(act: Act) -> usize
+    ensures { λ r. ⌜ r ≡ Calls.packed (outcomeNumbers (Outcome.Acted act)) ⌝ }
+{
+    match act {
+        Act::Tone(tone) => 16 + tone as usize,
+        Act::Shape(shape) => 32 + shape as usize,
+        Act::Stroke => 48,
+        Act::Clear => 64,
+    }
+}
+
+// What a key did: 16 times its kind, and the tone or the shape.
+fn outcome_number(outcome: Outcome) -> usize
+    ensures { λ r. ⌜ r ≡ Calls.packed (outcomeNumbers outcome) ⌝ }
+{
+    match outcome {
+        Outcome::Acted(act) => act_number(act),
+        Outcome::Undone => 80,
+        Outcome::Appended => 96,
+    }
+}
+
+fn place_number(place: Place) -> usize
+    ensures { λ r. ⌜ r ≡ Calls.placed (placeNumbers place) ⌝ }
+{
+    match place {
+        Place::At(at) => at,
+        Place::Nowhere => 255,
+    }
+}
+
+fn decision_number(decision: Decision) -> usize
+    ensures { λ r. ⌜ r ≡ decisionNumber decision ⌝ }
+{
+    match decision {
+        Decision::Keep => 0,
+        Decision::Restore => 1,
+    }
+}
+
+// A new word in a mode. Refusals: 8, 1.
+#[no_mangle]
+pub extern "C" fn fz_start(mode: u8, lent: &mut [u8], value: &mut usize) -> u8
+    ensures { λ r. ⌜ (r ≡ Calls.returned (Calls.start mode (now (lent .entry)))) × (now (value .exit) ≡ Calls.value Calls.single (Calls.start mode (now (lent .entry)))) × (now (lent .exit) ≡ Calls.startWord mode (now (lent .entry))) ⌝ }
+{
+    if lent.len() != layout::LENGTH {
+        return no_record(value);
+    }
+    let started = word::start(mode);
+    let answer = started.answer;
+    match answer {
+        StartAnswer::Started => {
+            let next = started.word;
+            layout::write(next, lent);
+            answered(0, value)
+        }
+        StartAnswer::Refused(refusal) => refused(refusal, value),
+    }
+}
+
+// A key typed; the value is what it did. Refusals: 8, 2, 3.
+#[no_mangle]
+pub extern "C" fn fz_type(lent: &mut [u8], key: u8, value: &mut usize) -> u8
+    ensures { λ r. ⌜ (r ≡ Calls.returned (Calls.type (now (lent .entry)) key)) × (now (value .exit) ≡ Calls.value Calls.packed (Calls.type (now (lent .entry)) key)) × (now (lent .exit) ≡ Calls.typeWord (now (lent .entry)) key) ⌝ }
+{
+    let reading = layout::read(lent);
+    if !reading.is_record {
+        return no_record(value);
+    }
+    let w = reading.word;
+    let stepped = step::step(w, key);
+    let answer = stepped.answer;
+    match answer {
+        StepAnswer::Did(outcome) => {
+            let next = stepped.word;
+            layout::write(next, lent);
+            answered(outcome_number(outcome), value)
+        }
+        StepAnswer::Refused(refusal) => refused(refusal, value),
+    }
+}
+
+// A key typed and the word shown, with one range check; the value is the bytes written. Refusals: 8, 2, 3, 4.
+#[no_mangle]
+pub extern "C" fn fz_type_and_show(
+    lent: &mut [u8],
+    key: u8,
+    out: &mut [u8],
+    value: &mut usize,
+) -> u8
+    ensures { λ r. ⌜ (r ≡ Calls.returned (Calls.typeAndShow (now (lent .entry)) key (now (out .entry)))) × (now (value .exit) ≡ Calls.value Calls.single (Calls.typeAndShow (now (lent .entry)) key (now (out .entry)))) × (now (lent .exit) ≡ Calls.typeAndShowWord (now (lent .entry)) key (now (out .entry))) × (now (out .exit) ≡ Calls.typeAndShowOutput (now (lent .entry)) key (now (out .entry))) ⌝ }
+{
+    let reading = layout::read(lent);
+    if !reading.is_record {
+        return no_record(value);
+    }
+    let w = reading.word;
+    let shown = press::press(w, key, out);
+    let answer = shown.answer;
+    match answer {
+        ShownAnswer::Did(_, bytes) => {
+            let next = shown.word;
+            layout::write(next, lent);
+            answered(bytes, value)
+        }
+        ShownAnswer::Refused(refusal) => refused(refusal, value),
+    }
+}
+
+// The word shown; the value is the bytes written. Refusals: 8, 4.
+#[no_mangle]
+pub extern "C" fn fz_show(lent: &[u8], out: &mut [u8], value: &mut usize) -> u8
+    ensures { λ r. ⌜ (r ≡ Calls.returned (Calls.show (now (lent .entry)) (now (out .entry)))) × (now (value .exit) ≡ Calls.value Calls.single (Calls.show (now (lent .entry)) (now (out .entry)))) × (now (out .exit) ≡ Calls.showOutput (now (lent .entry)) (now (out .entry))) ⌝ }
+{
+    let reading = layout::read(lent);
+    if !reading.is_record {
+        return no_record(value);
+    }
+    let w = reading.word;
+    match show::show(w, out) {
+        WriteAnswer::Wrote(bytes) => answered(bytes, value),
+        WriteAnswer::Refused(refusal) => refused(refusal, value),
+    }
+}
+
+// The verdict on the word. Refusals: 8.
+#[no_mangle]
+pub extern "C" fn fz_verdict(lent: &[u8], value: &mut usize) -> u8
+    ensures { λ r. ⌜ (r ≡ Calls.returned (Calls.verdict (now (lent .entry)))) × (now (value .exit) ≡ Calls.value Calls.single (Calls.verdict (now (lent .entry)))) ⌝ }
+{
+    let reading = layout::read(lent);
+    if !reading.is_record {
+        return no_record(value);
+    }
+    let w = reading.word;
+    match word::verdict(w) {
+        VerdictAnswer::Judged(verdict) => answered(verdict as usize, value),
+        VerdictAnswer::Refused(refusal) => refused(refusal, value),
+    }
+}
+
+// The place of the tone, 255 where there is none. Refusals: 8.
+#[no_mangle]
+pub extern "C" fn fz_place(lent: &[u8], value: &mut usize) -> u8
+    ensures { λ r. ⌜ (r ≡ Calls.returned (Calls.place (now (lent .entry)))) × (now (value .exit) ≡ Calls.value Calls.placed (Calls.place (now (lent .entry)))) ⌝ }
+{
+    let reading = layout::read(lent);
+    if !reading.is_record {
+        return no_record(value);
+    }
+    let w = reading.word;
+    match word::place(w) {
+        PlaceAnswer::Found(place) => answered(place_number(place), value),
+        PlaceAnswer::Refused(refusal) => refused(refusal, value),
+    }
+}
+
+// The decision on the word: 0 keep, 1 restore. Refusals: 8.
+#[no_mangle]
+pub extern "C" fn fz_decision(lent: &[u8], value: &mut usize) -> u8
+    ensures { λ r. ⌜ (r ≡ Calls.returned (Calls.decision (now (lent .entry)))) × (now (value .exit) ≡ Calls.value Calls.single (Calls.decision (now (lent .entry)))) ⌝ }
+{
+    let reading = layout::read(lent);
+    if !reading.is_record {
+        return no_record(value);
+    }
+    let w = reading.word;
+    match word::decision(w) {
+        DecisionAnswer::Decided(decision) => answered(decision_number(decision), value),
+        DecisionAnswer::Refused(refusal) => refused(refusal, value),
+    }
+}
+
+// Commit and its question in one: 0 the text is kept, 1 the keys are handed back. Refusals: 1, 2 (32), 2 (96), 3, 5.
+#[no_mangle]
+pub extern "C" fn fz_commit(mode: u8, keys: &[u8], text: &[u8], value: &mut usize) -> u8
+    ensures { λ r. ⌜ (r ≡ Calls.returned (Calls.commit mode (now (keys .entry)) (now (text .entry)))) × (now (value .exit) ≡ Calls.value Calls.single (Calls.commit mode (now (keys .entry)) (now (text .entry)))) ⌝ }
+{
+    match commit::rule(mode, keys, text) {
+        Ruling::Keep(_) => answered(0, value),
+        Ruling::Restore => answered(1, value),
+        Ruling::Refused(refusal) => refused(refusal, value),
+    }
+}

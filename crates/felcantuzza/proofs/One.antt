@@ -20,6 +20,8 @@ use Rattle.felcantuzza.proofs.fz_decision as fz-decision
 use Rattle.felcantuzza.proofs.fz_decision.Reads as fz-decision-reads
 use Rattle.felcantuzza.proofs.fz_commit as fz-commit
 use Rattle.felcantuzza.proofs.fz_commit.Reads as fz-commit-reads
+use Rattle.felcantuzza.proofs.fz_spell as fz-spell
+use Rattle.felcantuzza.proofs.fz_spell.Reads as fz-spell-reads
 
 pub fz-start-one : (κs : Lfts 2) (a : Args fz-start.signature κs) (r r′ : Res fz-start.signature κs) (e e′ : AtExit fz-start.ended κs) → fz-start-reads.Post κs a r e → fz-start-reads.Post κs a r′ e′ → (r ≡ r′) × (now (e .1 .1 .0) ≡ now (e′ .1 .1 .0)) × (now (e .1 .0) ≡ now (e′ .1 .0))
 fz-start-one κs a r r′ e e′ p p′ = (p .0 ∙ sym (p′ .0), p .1 ∙ sym (p′ .1), p .2 ∙ sym (p′ .2))
@@ -44,3 +46,6 @@ fz-decision-one κs a r r′ e e′ p p′ = (p .0 ∙ sym (p′ .0), p .1 ∙ s
 
 pub fz-commit-one : (κs : Lfts 3) (a : Args fz-commit.signature κs) (r r′ : Res fz-commit.signature κs) (e e′ : AtExit fz-commit.ended κs) → fz-commit-reads.Post κs a r e → fz-commit-reads.Post κs a r′ e′ → (r ≡ r′) × (now (e .1 .1 .1 .0) ≡ now (e′ .1 .1 .1 .0))
 fz-commit-one κs a r r′ e e′ p p′ = (p .0 ∙ sym (p′ .0), p .1 ∙ sym (p′ .1))
+
+pub fz-spell-one : (κs : Lfts 3) (a : Args fz-spell.signature κs) (r r′ : Res fz-spell.signature κs) (e e′ : AtExit fz-spell.ended κs) → fz-spell-reads.Post κs a r e → fz-spell-reads.Post κs a r′ e′ → (r ≡ r′) × (now (e .1 .1 .1 .0) ≡ now (e′ .1 .1 .1 .0)) × (now (e .1 .1 .0) ≡ now (e′ .1 .1 .0))
+fz-spell-one κs a r r′ e e′ p p′ = (p .0 ∙ sym (p′ .0), p .1 ∙ sym (p′ .1), p .2 ∙ sym (p′ .2))

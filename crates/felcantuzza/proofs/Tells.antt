@@ -178,3 +178,8 @@ committed mode keys text a x p q = go (refusal (Rules.commitCall mode keys text)
     go : (o : Option Refusal) → commitOr o (decision (Rules.typed mode keys)) ≡ rulingSays (rulingOr o mode keys text)
     go none = by-decision (decision (Rules.typed mode keys)) text
     go (some y) = refl
+
+-- the speller
+pub spelled : (mode : ℕ) (text out : List ℕ) (a x : WriteAnswer) → a ≡ Rules.spell mode text out .answer → a ≡ x → Calls.spell mode text out ≡ writeSays x
+unfolding Calls.spell
+spelled mode text out a x p q = ap writeSays (sym p ∙ q)

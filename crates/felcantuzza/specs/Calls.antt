@@ -99,3 +99,9 @@ commitOr (some r) d = refusing r
 
 unfoldable pub commit : ℕ → List ℕ → List ℕ → Says
 commit mode keys text = commitOr (refusal (Rules.commitCall mode keys text)) (Decided.decision (Rules.typed mode keys))
+
+unfoldable pub spell : ℕ → List ℕ → List ℕ → Says
+spell mode text out = writeSays (Rules.spell mode text out .answer)
+
+abbrev pub spellOutput : ℕ → List ℕ → List ℕ → List ℕ
+spellOutput mode text out = Rules.spell mode text out .output

@@ -223,3 +223,14 @@ pub extern "C" fn fz_commit(mode: u8, keys: &[u8], text: &[u8], value: &mut usiz
         Ruling::Refused(refusal) => refused(refusal, value),
     }
 }
+
+// A shown syllable as its standard key list; the value is the keys written. Refusals: 1, 2 (96), 6, 7, 4.
+#[no_mangle]
+pub extern "C" fn fz_spell(mode: u8, text: &[u8], out: &mut [u8], value: &mut usize) -> u8
+    ensures { λ r. ⌜ (r ≡ Calls.returned (Calls.spell mode (now (text .entry)) (now (out .entry)))) × (now (value .exit) ≡ Calls.value Calls.single (Calls.spell mode (now (text .entry)) (now (out .entry)))) × (now (out .exit) ≡ Calls.spellOutput mode (now (text .entry)) (now (out .entry))) ⌝ }
+{
+    match speller::spell(mode, text, out) {
+        WriteAnswer::Wrote(keys) => answered(keys, value),
+        WriteAnswer::Refused(refusal) => refused(refusal, value),
+    }
+}

@@ -1,0 +1,253 @@
+// One drill line to one answer line.
+ghost use mathlib.Core.Path.{_≡_};
+ghost use mathlib.Core.Bool.{false};
+ghost use mathlib.Core.List.{[], _∷_, _++_};
+ghost use Prim.Native.Nat.{_+_, _≤_, _<_};
+ghost use lib.ListN.{length};
+ghost use Rattle.rules.specs.TheWord.{mostKeys, mostBytes, atFront, wordOf};
+ghost use Rattle.rules.specs.CodePoints.{shown as shownText};
+ghost use Rattle.rules.specs.TakingApart.{verdict as verdictOf};
+ghost use Rattle.rules.specs.TonePlace.{tonePlace};
+ghost use Rattle.rules.specs.Decision.{decision as decisionOf, handedBack};
+ghost use Rattle.rules.specs.Refusals.{outOfRange};
+ghost use Rattle.rules.specs.Drill.{decimal, orHyphen, placeColumn, decisionColumn, columns, wordLine, refusedLine, keysLine, answerLine, drillLine};
+ghost use Rattle.lines.specs.Appending.{Appends, mostInLine, SmallPlace};
+ghost use Rattle.lines.specs.Starting.{modeNamed};
+use rules::Decision;
+use rules::DecisionAnswer;
+use rules::Place;
+use rules::PlaceAnswer;
+use rules::Refusal;
+use rules::TypeAnswer;
+use rules::VerdictAnswer;
+use rules::Word;
+use rules::WriteAnswer;
+
+const SPACE: u8 = b' ';
+
+const NEWLINE: u8 = b'\n';
+
+// A number that is no mode's.
+const NO_MODE: u8 = 2;
+
+// A part and the byte that ends its column, from a place of the text on; the place behind them.
+fn column(text: &mut [u8], at: usize, part: &[u8], end: u8) -> usize
+    requires { ⌜ at + length (now part) < length (now text) ⌝ }
+    ensures { λ r. ⌜ Appends (now (text .entry)) (now (text .exit)) at r (now (part .entry) ++ (end ∷ [])) ⌝ }
+{
+    let next = at + bytes::copy(part, &mut text[at..]);
+    text[next] = end;
+    next + 1
+}
+
+fn byte_column(text: &mut [u8], at: usize, b: u8, end: u8) -> usize
+    requires { ⌜ at + 1 < length (now text) ⌝ }
+    ensures { λ r. ⌜ Appends (now (text .entry)) (now (text .exit)) at r (b ∷ end ∷ []) ⌝ }
+{
+    text[at] = b;
+    let next = at + 1;
+    text[next] = end;
+    next + 1
+}
+
+// A number in decimal.
+fn number_column(text: &mut [u8], at: usize, n: u8, end: u8) -> usize
+    requires { ⌜ at + 2 < length (now text) ⌝ }
+    ensures { λ r. ⌜ Appends (now (text .entry)) (now (text .exit)) at r (decimal n ++ (end ∷ [])) ⌝ }
+{
+    if n < 10 {
+        return byte_column(text, at, b'0' + n, end);
+    }
+    text[at] = b'0' + n / 10;
+    byte_column(text, at + 1, b'0' + n % 10, end)
+}
+
+// A text, or a hyphen where it is empty.
+fn text_column(text: &mut [u8], at: usize, part: &[u8], end: u8) -> usize
+    requires { ⌜ at + length (now part) + 1 < length (now text) ⌝ }
+    ensures { λ r. ⌜ Appends (now (text .entry)) (now (text .exit)) at r (orHyphen (now (part .entry)) ++ (end ∷ [])) ⌝ }
+{
+    if part.len() == 0 {
+        return byte_column(text, at, b'-', end);
+    }
+    column(text, at, part, end)
+}
+
+// What commit hands back: the shown text or the keys, by the decision.
+fn commit_column(
+    text: &mut [u8],
+    at: usize,
+    decision: Decision,
+    shown: &[u8],
+    keys: &[u8],
+    end: u8,
+) -> usize
+    requires { ⌜ (at + length (now shown) + 1 < length (now text)) × (at + length (now keys) + 1 < length (now text)) ⌝ }
+    ensures { λ r. ⌜ Appends (now (text .entry)) (now (text .exit)) at r (orHyphen (handedBack decision (now (shown .entry)) (now (keys .entry))) ++ (end ∷ [])) ⌝ }
+{
+    match decision {
+        Decision::Keep => text_column(text, at, shown, end),
+        Decision::Restore => text_column(text, at, keys, end),
+    }
+}
+
+fn place_column(text: &mut [u8], at: usize, place: Place, end: u8) -> usize
+    requires { ⌜ (at + 2 < length (now text)) × SmallPlace place ⌝ }
+    ensures { λ r. ⌜ Appends (now (text .entry)) (now (text .exit)) at r (placeColumn place ++ (end ∷ [])) ⌝ }
+{
+    let Place::At(n) = place else {
+        return byte_column(text, at, b'-', end);
+    };
+    number_column(text, at, n as u8, end)
+}
+
+fn letter(decision: Decision) -> u8
+    ensures { λ r. ⌜ r ∷ [] ≡ decisionColumn decision ⌝ }
+{
+    match decision {
+        Decision::Keep => b'K',
+        Decision::Restore => b'R',
+    }
+}
+
+// The six columns.
+fn six_columns(
+    text: &mut [u8],
+    shown: &[u8],
+    keys: &[u8],
+    verdict: u8,
+    tone: u8,
+    place: Place,
+    decision: Decision,
+) -> usize
+    requires { ⌜ (mostInLine ≤ length (now text)) × (length (now shown) ≤ mostBytes) × (length (now keys) ≤ mostKeys) × SmallPlace place ⌝ }
+    ensures { λ r. ⌜ Appends (now (text .entry)) (now (text .exit)) 0 r
+        (columns (orHyphen (now (shown .entry)) ∷ orHyphen (handedBack decision (now (shown .entry)) (now (keys .entry))) ∷ decimal verdict ∷ decimal tone ∷ placeColumn place ∷ decisionColumn decision ∷ [])) ⌝ }
+{
+    let a = text_column(text, 0, shown, SPACE);
+    let b = commit_column(text, a, decision, shown, keys, SPACE);
+    let c = number_column(text, b, verdict, SPACE);
+    let d = number_column(text, c, tone, SPACE);
+    let e = place_column(text, d, place, SPACE);
+    byte_column(text, e, letter(decision), NEWLINE)
+}
+
+// Of a word in range: its text at the front of the buffer, its verdict, the place of its tone and the decision on it. The entries refuse no such word.
+fn shown(w: Word, buffer: &mut [u8]) -> usize
+    requires { ⌜ (outOfRange w ≡ false) × (mostBytes ≤ length (now buffer)) ⌝ }
+    ensures { λ r. ⌜ (r ≡ length (shownText (wordOf w .state))) × (now (buffer .exit) ≡ atFront (shownText (wordOf w .state)) (now (buffer .entry))) ⌝ }
+{
+    let WriteAnswer::Wrote(n) = show::show(w, buffer) else {
+        return 0;
+    };
+    n
+}
+
+fn verdict(w: Word) -> u8
+    requires { ⌜ outOfRange w ≡ false ⌝ }
+    ensures { λ r. ⌜ r ≡ verdictOf (wordOf w .state .letters) (w .tone) ⌝ }
+{
+    let VerdictAnswer::Judged(verdict) = word::verdict(w) else {
+        return 0;
+    };
+    verdict
+}
+
+fn place(w: Word) -> Place
+    requires { ⌜ outOfRange w ≡ false ⌝ }
+    ensures { λ r. ⌜ r ≡ tonePlace (wordOf w .state .letters) (w .tone) ⌝ }
+{
+    let PlaceAnswer::Found(place) = word::place(w) else {
+        return Place::Nowhere;
+    };
+    place
+}
+
+fn decision(w: Word) -> Decision
+    requires { ⌜ outOfRange w ≡ false ⌝ }
+    ensures { λ r. ⌜ r ≡ decisionOf (wordOf w) ⌝ }
+{
+    let DecisionAnswer::Decided(decision) = word::decision(w) else {
+        return Decision::Keep;
+    };
+    decision
+}
+
+// The line of a word.
+fn word_line(text: &mut [u8], w: Word) -> usize
+    requires { ⌜ (mostInLine ≤ length (now text)) × (outOfRange w ≡ false) ⌝ }
+    ensures { λ r. ⌜ Appends (now (text .entry)) (now (text .exit)) 0 r (wordLine (wordOf w)) ⌝ }
+{
+    let mut buffer = [0; Word::TEXT];
+    let n = shown(w, &mut buffer);
+    let keys = w.keys;
+    let typed = w.typed as usize;
+    six_columns(
+        text,
+        &buffer[0..n],
+        &keys[0..typed],
+        verdict(w),
+        w.tone,
+        place(w),
+        decision(w),
+    )
+}
+
+// The line of a refusal: `!`, its number and the number returned.
+fn refused_line(text: &mut [u8], r: Refusal) -> usize
+    requires { ⌜ (mostInLine ≤ length (now text)) × (r .value < 256) ⌝ }
+    ensures { λ n. ⌜ Appends (now (text .entry)) (now (text .exit)) 0 n (refusedLine r) ⌝ }
+{
+    let a = byte_column(text, 0, b'!', SPACE);
+    let b = number_column(text, a, r.number, SPACE);
+    number_column(text, b, r.value as u8, NEWLINE)
+}
+
+fn keys_line(text: &mut [u8], mode: u8, keys: &[u8]) -> usize
+    requires { ⌜ mostInLine ≤ length (now text) ⌝ }
+    ensures { λ r. ⌜ Appends (now (text .entry)) (now (text .exit)) 0 r (keysLine mode (now (keys .entry))) ⌝ }
+{
+    let all = word::type_all(mode, keys);
+    let answer = all.answer;
+    if let TypeAnswer::Refused(refusal) = answer {
+        return refused_line(text, refusal);
+    }
+    word_line(text, all.word)
+}
+
+// The mode that the first two bytes of a line name: T or V, a space. Any other start names none.
+fn mode_of(line: &[u8]) -> u8
+    requires { ⌜ 2 ≤ length (now line) ⌝ }
+    ensures { λ r. ⌜ r ≡ modeNamed (now (line .entry)) ⌝ }
+{
+    if line[1] != SPACE {
+        return NO_MODE;
+    }
+    if line[0] == b'T' {
+        return Word::TELEX;
+    }
+    if line[0] == b'V' {
+        return Word::VNI;
+    }
+    NO_MODE
+}
+
+// The answer to a line. Keys in no mode are refusal 1.
+fn line_text(text: &mut [u8], line: &[u8]) -> usize
+    requires { ⌜ mostInLine ≤ length (now text) ⌝ }
+    ensures { λ r. ⌜ Appends (now (text .entry)) (now (text .exit)) 0 r (answerLine (now (line .entry))) ⌝ }
+{
+    if line.len() < 2 {
+        return keys_line(text, NO_MODE, line);
+    }
+    keys_line(text, mode_of(line), &line[2..])
+}
+
+// The answer to a line, its newline included, at the front of the output. Refusals: 4 with the bytes needed; the output is then as it was.
+pub fn answer_line(line: &[u8], out: &mut [u8]) -> WriteAnswer
+    ensures { λ r. ⌜ (r ≡ drillLine (now (line .entry)) (now (out .entry)) .answer) × (now (out .exit) ≡ drillLine (now (line .entry)) (now (out .entry)) .output) ⌝ }
+{
+    let mut text = [0; 256];
+    let n = line_text(&mut text, line);
+    output::write(&text[0..n], out)
+}

@@ -56,6 +56,11 @@ module _ (s : Says) (new old : List ℕ) where
   pub unchanged : (n m : ℕ) → s ≡ refused n m → old ≡ unlessRefused s new old
   unchanged n m e = sym (ap (λ (x : Says). unlessRefused x new old) e)
 
+-- a call that returns another number than 0 leaves the lent bytes
+pub refused-unchanged : (s : Says) (new old : List ℕ) → (returned s ≡ 0 → ⊥) → unlessRefused s new old ≡ old
+refused-unchanged (answered ns) new old h = absurd (h refl)
+refused-unchanged (refused n m) new old h = refl
+
 module _ (mode : ℕ) (lent : List ℕ) where
   pub no-room : (length lent ≡ 104 → ⊥) → Calls.start mode lent ≡ refused 8 0
   unfolding Calls.start

@@ -1,0 +1,244 @@
+/* The library as the box links it: words typed key by key, every refusal, show and commit. One line for each check that fails. */
+#include "../../box/felcantuzza.h"
+
+extern int printf(const char *form, ...);
+
+static int checks, failures;
+
+static void check(int holds, const char *what, const char *of) {
+    checks++;
+    if (!holds) {
+        failures++;
+        printf("box: FAILED: %s: %s\n", of, what);
+    }
+}
+
+static unsigned long length(const char *s) {
+    unsigned long n = 0;
+    while (s[n])
+        n++;
+    return n;
+}
+
+static const unsigned char *bytes(const char *s) { return (const unsigned char *)s; }
+
+static int same(const unsigned char *a, const unsigned char *b, unsigned long n) {
+    for (unsigned long i = 0; i < n; i++)
+        if (a[i] != b[i])
+            return 0;
+    return 1;
+}
+
+static void copy(unsigned char *to, const unsigned char *from, unsigned long n) {
+    for (unsigned long i = 0; i < n; i++)
+        to[i] = from[i];
+}
+
+static void fill(unsigned char *to, unsigned long n, unsigned char with) {
+    for (unsigned long i = 0; i < n; i++)
+        to[i] = with;
+}
+
+/* What a call that is still to write its value must not leave there. */
+#define UNWRITTEN 4711
+
+/* The keys typed into a new word by fz_type_and_show, and beside it by fz_type and fz_show: both leave the same word and the same text. */
+static unsigned long type_all(unsigned char mode, const char *keys, unsigned char *word, unsigned char *text) {
+    unsigned char other[FZ_WORD], shown[FZ_TEXT];
+    unsigned long n = UNWRITTEN, m = UNWRITTEN;
+    check(fz_start(mode, word, FZ_WORD, &n) == 0 && n == 0, "a new word", keys);
+    copy(other, word, FZ_WORD);
+    check(fz_show(word, FZ_WORD, text, FZ_TEXT, &n) == 0 && n == 0, "a new word shows nothing", keys);
+    for (unsigned long i = 0; keys[i]; i++) {
+        fill(text, FZ_TEXT, '#');
+        fill(shown, FZ_TEXT, '#');
+        check(fz_type_and_show(word, FZ_WORD, (unsigned char)keys[i], text, FZ_TEXT, &n) == 0, "typed and shown", keys);
+        check(fz_type(other, FZ_WORD, (unsigned char)keys[i], &m) == 0, "typed", keys);
+        check(fz_show(other, FZ_WORD, shown, FZ_TEXT, &m) == 0, "shown", keys);
+        check(n == m && same(text, shown, FZ_TEXT), "one call and two show the same", keys);
+        check(same(word, other, FZ_WORD), "one call and two leave the same word", keys);
+        check(word[4] == i + 1 && word[8 + i] == (unsigned char)keys[i], "the key is kept", keys);
+        check(word[5] + word[6] + word[7] == word[4], "the counts add up", keys);
+        for (unsigned long j = n; j < FZ_TEXT; j++)
+            check(text[j] == '#', "the output behind the text is as it was", keys);
+    }
+    return n;
+}
+
+struct card {
+    unsigned char mode;
+    const char *keys, *shown;
+    unsigned long verdict, tone, place, decision;
+};
+
+static const struct card cards[] = {
+    {FZ_TELEX, "", "", 1, 0, FZ_NOWHERE, 0},
+    {FZ_TELEX, "vieejt", "việt", 0, 5, 2, 0},
+    {FZ_TELEX, "VIEEJT", "VIỆT", 0, 5, 2, 0},
+    {FZ_TELEX, "hoas", "hóa", 0, 1, 1, 0},
+    {FZ_TELEX, "hoasn", "hoán", 0, 1, 2, 0},
+    {FZ_TELEX, "claus", "claus", 2, 0, FZ_NOWHERE, 0},
+    {FZ_TELEX, "text", "tẽt", 7, 4, 1, 1},
+    {FZ_TELEX, "tesst", "test", 5, 0, FZ_NOWHERE, 0},
+    {FZ_TELEX, "dod", "đo", 0, 0, FZ_NOWHERE, 0},
+    {FZ_TELEX, "nguoiwf", "người", 0, 2, 3, 0},
+    {FZ_TELEX, "quas", "quá", 0, 1, 2, 0},
+    {FZ_TELEX, "gis", "gí", 0, 1, 1, 0},
+    {FZ_TELEX, "gias", "giá", 0, 1, 2, 0},
+    {FZ_TELEX, "aww", "aw", 5, 0, FZ_NOWHERE, 0},
+    {FZ_TELEX, "carps", "cáp", 0, 1, 1, 0},
+    {FZ_TELEX, "capr", "capr", 5, 0, FZ_NOWHERE, 0},
+    {FZ_TELEX, "expect", "ễpct", 5, 4, 0, 1},
+    {FZ_VNI, "a11", "a1", 5, 0, FZ_NOWHERE, 0},
+    {FZ_VNI, "d9uong72", "đường", 0, 2, 2, 0},
+};
+
+static void try_card(const struct card *c) {
+    unsigned char word[FZ_WORD], text[FZ_TEXT];
+    unsigned long keys = length(c->keys), shown = length(c->shown), v = UNWRITTEN;
+    unsigned long n = type_all(c->mode, c->keys, word, text);
+    if (keys == 0)
+        n = 0;
+    check(n == shown && same(text, bytes(c->shown), shown), "the shown text", c->keys);
+    check(word[2] == c->tone, "the tone", c->keys);
+    check(fz_verdict(word, FZ_WORD, &v) == 0 && v == c->verdict, "the verdict", c->keys);
+    check(fz_place(word, FZ_WORD, &v) == 0 && v == c->place, "the place of the tone", c->keys);
+    check(fz_decision(word, FZ_WORD, &v) == 0 && v == c->decision, "the decision", c->keys);
+    v = UNWRITTEN;
+    check(fz_commit(c->mode, bytes(c->keys), keys, bytes(c->shown), shown, &v) == 0 && v == c->decision, "commit", c->keys);
+    v = UNWRITTEN;
+    check(fz_commit(c->mode, bytes(c->keys), keys, bytes("?"), 1, &v) == 5 && v == 0, "commit of another text is refusal 5", c->keys);
+    if (shown > 0) {
+        check(fz_commit(c->mode, bytes(c->keys), keys, bytes(c->shown), shown - 1, &v) == 5 && v == 0, "commit of a byte less is refusal 5", c->keys);
+        fill(text, FZ_TEXT, '#');
+        check(fz_show(word, FZ_WORD, text, shown - 1, &v) == 4 && v == shown && text[0] == '#', "show into a byte less is refusal 4", c->keys);
+        check(fz_show(word, FZ_WORD, text, shown, &v) == 0 && v == shown && text[shown] == '#', "show into just enough", c->keys);
+    }
+}
+
+/* What each key did, as fz_type's value. */
+static void try_outcomes(unsigned char mode, const char *keys, const unsigned long *did) {
+    unsigned char word[FZ_WORD];
+    unsigned long v = UNWRITTEN;
+    fz_start(mode, word, FZ_WORD, &v);
+    for (unsigned long i = 0; keys[i]; i++)
+        check(fz_type(word, FZ_WORD, (unsigned char)keys[i], &v) == 0 && v == did[i], "what the key did", keys);
+}
+
+/* Each call on these bytes is refused with the number and the value, and changes no byte. */
+static void try_refused(unsigned char *word, unsigned long word_length, unsigned char number, unsigned long value, const char *why) {
+    unsigned char before[FZ_WORD + 1], text[FZ_TEXT], blank[FZ_TEXT];
+    unsigned long v[6];
+    fill(text, FZ_TEXT, '#');
+    fill(blank, FZ_TEXT, '#');
+    copy(before, word, word_length);
+    for (int i = 0; i < 6; i++)
+        v[i] = UNWRITTEN;
+    check(fz_type(word, word_length, 'a', &v[0]) == number && v[0] == value, "fz_type", why);
+    check(fz_type_and_show(word, word_length, 'a', text, FZ_TEXT, &v[1]) == number && v[1] == value, "fz_type_and_show", why);
+    if (number == 8) {
+        check(fz_show(word, word_length, text, FZ_TEXT, &v[2]) == 8 && v[2] == 0, "fz_show", why);
+        check(fz_verdict(word, word_length, &v[3]) == 8 && v[3] == 0, "fz_verdict", why);
+        check(fz_place(word, word_length, &v[4]) == 8 && v[4] == 0, "fz_place", why);
+        check(fz_decision(word, word_length, &v[5]) == 8 && v[5] == 0, "fz_decision", why);
+    }
+    check(same(word, before, word_length), "the word is as it was", why);
+    check(same(text, blank, FZ_TEXT), "the output is as it was", why);
+}
+
+/* A word with one byte changed is out of range. */
+static void try_broken(const unsigned char *word, unsigned long place, unsigned char byte, const char *why) {
+    unsigned char broken[FZ_WORD];
+    copy(broken, word, FZ_WORD);
+    broken[place] = byte;
+    try_refused(broken, FZ_WORD, 8, 0, why);
+}
+
+int main(void) {
+    unsigned char word[FZ_WORD + 1], before[FZ_WORD + 1], text[FZ_TEXT], long_text[FZ_TEXT + 1];
+    unsigned long v;
+
+    for (unsigned long i = 0; i < sizeof cards / sizeof cards[0]; i++)
+        try_card(&cards[i]);
+
+    try_outcomes(FZ_TELEX, "vieejt", (const unsigned long[]){96, 96, 96, 33, 21, 96});
+    try_outcomes(FZ_TELEX, "dodsz", (const unsigned long[]){96, 96, 48, 17, 64});
+    try_outcomes(FZ_TELEX, "aww", (const unsigned long[]){96, 34, 80});
+    try_outcomes(FZ_TELEX, "uow", (const unsigned long[]){96, 96, 35});
+    try_outcomes(FZ_VNI, "a1122", (const unsigned long[]){96, 17, 80, 96, 96});
+
+    /* Refusals of fz_start: the length, then the mode. Nothing is written. */
+    for (unsigned long n = FZ_WORD - 1; n <= FZ_WORD + 1; n++) {
+        fill(word, FZ_WORD + 1, 0xAA);
+        fill(before, FZ_WORD + 1, 0xAA);
+        v = UNWRITTEN;
+        if (n == FZ_WORD)
+            check(fz_start(2, word, n, &v) == 1 && v == 0, "refusal 1", "fz_start of mode 2");
+        else
+            check(fz_start(2, word, n, &v) == 8 && v == 0, "refusal 8", "fz_start on another length");
+        check(same(word, before, FZ_WORD + 1), "nothing is written", "fz_start refused");
+    }
+
+    /* Bytes that are no record: another length, or a mark of 2. */
+    type_all(FZ_TELEX, "vieejt", word, text);
+    word[FZ_WORD] = 0;
+    try_refused(word, FZ_WORD - 1, 8, 0, "103 bytes");
+    try_refused(word, FZ_WORD + 1, 8, 0, "105 bytes");
+    try_refused(word, 0, 8, 0, "no bytes");
+    try_broken(word, 3, 2, "a mark of 2");
+
+    /* Records out of range, one condition at a time. */
+    try_broken(word, 0, 2, "a mode of 2");
+    try_broken(word, 1, 33, "33 letters");
+    try_broken(word, 1, 7, "more letters than keys");
+    try_broken(word, 2, 6, "a tone of 6");
+    try_broken(word, 4, 33, "33 keys");
+    try_broken(word, 5, 33, "33 keys that acted");
+    try_broken(word, 7, 3, "counts that do not add up");
+    try_broken(word, 8, '1', "a kept digit in Telex");
+    try_broken(word, 40, 'V', "a letter by its capital's code");
+    try_broken(word, 41, 1, "a circumflex on v");
+    try_broken(word, 41, 16, "a letter's number that is none");
+
+    /* A key that the mode does not have: the number of keys already typed. */
+    for (unsigned long i = 0; i < 3; i++) {
+        const unsigned char bad[] = {'1', ' ', 0xC3};
+        copy(before, word, FZ_WORD);
+        fill(text, FZ_TEXT, '#');
+        v = UNWRITTEN;
+        check(fz_type(word, FZ_WORD, bad[i], &v) == 3 && v == 6, "refusal 3 with 6", "fz_type");
+        v = UNWRITTEN;
+        check(fz_type_and_show(word, FZ_WORD, bad[i], text, FZ_TEXT, &v) == 3 && v == 6 && text[0] == '#', "refusal 3 with 6", "fz_type_and_show");
+        check(same(word, before, FZ_WORD), "the word is as it was", "refusal 3");
+    }
+
+    /* No room for the text: the key is not typed. */
+    type_all(FZ_TELEX, "vieej", word, text);
+    copy(before, word, FZ_WORD);
+    fill(text, FZ_TEXT, '#');
+    v = UNWRITTEN;
+    check(fz_type_and_show(word, FZ_WORD, 't', text, 5, &v) == 4 && v == 6, "refusal 4 with 6", "fz_type_and_show");
+    check(same(word, before, FZ_WORD) && text[0] == '#', "word and output are as they were", "refusal 4");
+    check(fz_type_and_show(word, FZ_WORD, 't', text, 6, &v) == 0 && v == 6 && same(text, bytes("việt"), 6) && text[6] == '#', "just enough room", "fz_type_and_show");
+
+    /* A full word: 32 times a is 31 letters, closed; one more is refused, also where it is no key. */
+    v = type_all(FZ_TELEX, "aaaaaaaaaaaaaaaaaaaaaaaaaaaaaaaa", word, text);
+    check(v == 31 && word[1] == 31 && word[3] == 1 && word[4] == 32, "31 letters, closed", "32 times a");
+    try_refused(word, FZ_WORD, 2, 32, "a word of 32 keys");
+    check(fz_type(word, FZ_WORD, '!', &v) == 2 && v == 32, "2 comes before 3", "a word of 32 keys");
+
+    /* Refusals of fz_commit, in their order. */
+    fill(long_text, FZ_TEXT + 1, 'a');
+    v = UNWRITTEN;
+    check(fz_commit(2, long_text, 33, long_text, 97, &v) == 1 && v == 0, "refusal 1", "fz_commit");
+    v = UNWRITTEN;
+    check(fz_commit(FZ_TELEX, long_text, 33, long_text, 97, &v) == 2 && v == 32, "refusal 2 with 32", "fz_commit");
+    v = UNWRITTEN;
+    check(fz_commit(FZ_TELEX, bytes("a1"), 2, long_text, 97, &v) == 2 && v == 96, "refusal 2 with 96", "fz_commit");
+    v = UNWRITTEN;
+    check(fz_commit(FZ_TELEX, bytes("a1"), 2, long_text, 96, &v) == 3 && v == 1, "refusal 3 with its place", "fz_commit");
+    check(fz_commit(FZ_VNI, bytes("a1"), 2, bytes("\xC3\xA1"), 2, &v) == 0 && v == 0, "a digit is a key of VNI", "fz_commit");
+
+    printf("box: %d checks, %d failed\n", checks, failures);
+    return failures != 0;
+}

@@ -46,10 +46,13 @@
  *       for a typed key the number of keys already typed
  *   4   the output is too short: the bytes needed
  *   5   the text is not exactly what the keys show: 0
+ *   6   a byte of the text where no letter of the Vietnamese or the English alphabet starts: its place, from 0
+ *   7   the text is no syllable as it would be shown: 8 where two letters carry a tone; else what fz_verdict would say, 1 to 7; else 9
+ *       where the tone stands on another letter than it should
  *   8   the word is not 104 bytes, its mark is neither 0 nor 1, or it is out of range (a count over 32, more letters
  *       than keys, counts 5 to 7 that do not add up to the keys, a key or letter that the mode does not have, a
  *       shape that its letter cannot carry, a digit as a capital, a tone or mode that does not exist): 0
- * Where several hold, the first in the order 8, 1, 2, 3, 5, 4 is given; of 2 the one for keys comes first.
+ * Where several hold, the first in the order 8, 1, 2, 3, 6, 7, 5, 4 is given; of 2 the one for keys comes first.
  */
 #ifndef FELCANTUZZA_H
 #define FELCANTUZZA_H
@@ -57,6 +60,7 @@
 #define FZ_WORD 104 /* bytes of a word */
 #define FZ_KEYS 32  /* keys of a word at most */
 #define FZ_TEXT 96  /* bytes of text at most: an output of this length is never too short */
+#define FZ_LIST 9   /* keys of a standard list at most */
 #define FZ_TELEX 0
 #define FZ_VNI 1
 #define FZ_NOWHERE 255 /* fz_place: no letter carries the tone */
@@ -102,6 +106,12 @@ unsigned char fz_decision(const unsigned char *word, unsigned long word_length, 
  * Value: 0 keep the text, 1 hand back the keys. Refusals: 1, 2 (32), 2 (96), 3, 5.
  */
 unsigned char fz_commit(unsigned char mode, const unsigned char *keys, unsigned long keys_length, const unsigned char *text, unsigned long text_length, unsigned long *value);
+
+/*
+ * A shown syllable back to keys: its one standard key list at the front of the output, and the rest of the output as it was. Value: how many
+ * keys, at most FZ_LIST. Refusals: 1, 2 (96), 6, 7, 4.
+ */
+unsigned char fz_spell(unsigned char mode, const unsigned char *text, unsigned long text_length, unsigned char *output, unsigned long output_length, unsigned long *value);
 
 #ifdef __cplusplus
 }

@@ -1,4 +1,4 @@
-/* The library as the box links it: words typed key by key, every refusal, show and commit. One line for each check that fails. */
+/* The library as the box links it: words typed key by key, every refusal, show, commit and spelling. One line for each check that fails. */
 #include "../../box/felcantuzza.h"
 
 extern int printf(const char *form, ...);
@@ -154,6 +154,28 @@ static void try_broken(const unsigned char *word, unsigned long place, unsigned 
     try_refused(broken, FZ_WORD, 8, 0, why);
 }
 
+/* A shown text spelled in both modes; typing either list shows it again. */
+static void try_spelled(const char *shown, const char *telex, const char *vni) {
+    for (unsigned char mode = FZ_TELEX; mode <= FZ_VNI; mode++) {
+        const char *list = mode == FZ_TELEX ? telex : vni;
+        unsigned char word[FZ_WORD], text[FZ_TEXT], keys[FZ_LIST + 1];
+        unsigned long n = length(list), v = UNWRITTEN;
+        fill(keys, FZ_LIST + 1, '#');
+        check(fz_spell(mode, bytes(shown), length(shown), keys, FZ_LIST, &v) == 0 && v == n && same(keys, bytes(list), n) && keys[n] == '#', "the key list", shown);
+        check(type_all(mode, list, word, text) == length(shown) && same(text, bytes(shown), length(shown)), "typed again", shown);
+        fill(keys, FZ_LIST + 1, '#');
+        check(fz_spell(mode, bytes(shown), length(shown), keys, n - 1, &v) == 4 && v == n && keys[0] == '#', "a list into a byte less is refusal 4", shown);
+    }
+}
+
+/* A text that is not spelled. */
+static void try_not_spelled(const char *text, unsigned char number, unsigned long value) {
+    unsigned char keys[FZ_LIST];
+    unsigned long v = UNWRITTEN;
+    fill(keys, FZ_LIST, '#');
+    check(fz_spell(FZ_TELEX, bytes(text), length(text), keys, FZ_LIST, &v) == number && v == value && keys[0] == '#', "the speller's refusal", text);
+}
+
 int main(void) {
     unsigned char word[FZ_WORD + 1], before[FZ_WORD + 1], text[FZ_TEXT], long_text[FZ_TEXT + 1];
     unsigned long v;
@@ -238,6 +260,22 @@ int main(void) {
     v = UNWRITTEN;
     check(fz_commit(FZ_TELEX, bytes("a1"), 2, long_text, 96, &v) == 3 && v == 1, "refusal 3 with its place", "fz_commit");
     check(fz_commit(FZ_VNI, bytes("a1"), 2, bytes("\xC3\xA1"), 2, &v) == 0 && v == 0, "a digit is a key of VNI", "fz_commit");
+
+    /* Spelling, there and back; and its refusals. */
+    try_spelled("việt", "vieetj", "vie6t5");
+    try_spelled("Đường", "Dduowngf", "D9uo7ng2");
+    try_spelled("nghiêng", "nghieeng", "nghie6ng");
+    try_spelled("QUÁ", "QUAs", "QUA1");
+    try_not_spelled("", 7, 1);
+    try_not_spelled("a1", 6, 1);
+    try_not_spelled("vi\xE1\xBB", 6, 2);
+    try_not_spelled("tẽt", 7, 7);
+    try_not_spelled("họá", 7, 8);
+    try_not_spelled("qúa", 7, 9);
+    v = UNWRITTEN;
+    check(fz_spell(2, long_text, 97, text, FZ_TEXT, &v) == 1 && v == 0, "refusal 1", "fz_spell");
+    v = UNWRITTEN;
+    check(fz_spell(FZ_VNI, long_text, 97, text, FZ_TEXT, &v) == 2 && v == 96, "refusal 2 with 96", "fz_spell");
 
     printf("box: %d checks, %d failed\n", checks, failures);
     return failures != 0;

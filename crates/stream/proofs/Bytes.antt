@@ -1,0 +1,166 @@
+-- What one byte does, by its tests: kept, or the line answered, or stuck.
+use mathlib.Core.Path.{_≡_, refl, sym, ap, ap₂, _∙_}
+use mathlib.Core.Bool.{Bool, true, false}
+use mathlib.Core.List.{List, [], _∷_, _++_, append-nil}
+use Prim.Native.Nat.{ℕ, _+_, _-_, _≤_, _<_, min}
+use native.Mathlib.Omega.{arith}
+use borrow.Author.Tests.{eq-eqb, ne-eqb, leb-true, leb-false, ltb-true, ltb-false, lt-ltb, le-ltb}
+use lib.Dec.{leb, ltb}
+use lib.ListN.{length, take, drop, set, length-take, length-drop, take-append-drop, drop-of-length-le}
+use lib.Seq.{take-all}
+use Rattle.rules.specs.TheWord.{atFront}
+use Rattle.rules.specs.Refusals.{refusal}
+use Rattle.rules.specs.WhatComesBack.{Written}
+use Rattle.rules.specs.Drill.{newline, answerLine, drillLine}
+use Rattle.rules.specs.declared.Refusal.{Refusal}
+use Rattle.rules.specs.declared.WriteAnswer.the-variants.{Wrote, Refused}
+use Rattle.stream.specs.Feeding.{mostKept, lineOf, keptIf, kept, ended, ByteFed, byteIf, byteFed, putAt, stepOf, finishOr}
+use Rattle.stream.specs.declared.Begun.{Begun}
+use Rattle.stream.specs.declared.Step.{Step}
+
+-- one byte more
+module _ (s : Begun) (b : ℕ) where
+  pub has-room : s .length < mostKept → record { line = set (s .line) (s .length) b; length = s .length + 1 } ≡ kept s b
+  unfolding kept
+  has-room h = sym (ap (λ (c : Bool). keptIf c s b) (lt-ltb (s .length) mostKept h))
+
+  pub is-full : mostKept ≤ s .length → s ≡ kept s b
+  unfolding kept
+  is-full h = sym (ap (λ (c : Bool). keptIf c s b) (le-ltb (s .length) mostKept h))
+
+-- the part of the array that is the line
+pub line-kept : (s : Begun) (n : ℕ) → length (s .line) ≡ mostKept → n ≡ min (s .length) mostKept → take (n - 0) (s .line) ≡ lineOf s
+line-kept s n long e = go (ltb mostKept (s .length)) refl
+  where
+    go : (b : Bool) → ltb mostKept (s .length) ≡ b → take (n - 0) (s .line) ≡ lineOf s
+    go true d =
+        let over = ltb-true mostKept (s .length) d in
+        take-all (n - 0) (s .line) (omega arith) ∙ sym (take-all (s .length) (s .line) (omega arith))
+    go false d =
+        let most = ltb-false mostKept (s .length) d in
+        let m : n - 0 ≡ s .length = omega arith in
+        ap (λ (k : ℕ). take k (s .line)) m
+
+-- the answer to a line: it fits the output, or the output is as it was
+module _ (line out : List ℕ) where
+  fits : length (answerLine line) ≤ length out → drillLine line out ≡ record { answer = Wrote (length (answerLine line)); output = atFront (answerLine line) out }
+  unfolding drillLine refusal
+  fits h = simp (le-ltb (length out) (length (answerLine line)) h)
+
+  too-long : length out < length (answerLine line) → drillLine line out ≡ record { answer = Refused (record { number = 4; value = length (answerLine line) }); output = out }
+  unfolding drillLine refusal
+  too-long h = simp (lt-ltb (length out) (length (answerLine line)) h)
+
+  -- by what was answered
+  pub record NoRoom : Type 0 where
+    pub test : leb (length (answerLine line)) (length out) ≡ false
+    pub output : drillLine line out .output ≡ out
+
+  pub record Room (n : ℕ) : Type 0 where
+    pub test : leb (length (answerLine line)) (length out) ≡ true
+    pub many : n ≡ length (answerLine line)
+    pub output : drillLine line out .output ≡ atFront (answerLine line) out
+
+  pub no-room : (x : Refusal) → drillLine line out .answer ≡ Refused x → NoRoom
+  no-room x e = go (leb (length (answerLine line)) (length out)) refl
+    where
+      go : (b : Bool) → leb (length (answerLine line)) (length out) ≡ b → NoRoom
+      go true d =
+          let f : Wrote (length (answerLine line)) ≡ Refused x = sym (ap (λ (y : Written). y .answer) (fits (leb-true (length (answerLine line)) (length out) d))) ∙ e in
+          let z : _≡_ {A = ℕ} 0 1 = cc in
+          absurd (omega arith)
+      go false d = record { test = d; output = ap (λ (y : Written). y .output) (too-long (leb-false (length (answerLine line)) (length out) d)) }
+
+  pub room : (n : ℕ) → drillLine line out .answer ≡ Wrote n → Room n
+  room n e = go (leb (length (answerLine line)) (length out)) refl
+    where
+      go : (b : Bool) → leb (length (answerLine line)) (length out) ≡ b → Room n
+      go true d =
+          let g = fits (leb-true (length (answerLine line)) (length out) d) in
+          let f : Wrote (length (answerLine line)) ≡ Wrote n = sym (ap (λ (y : Written). y .answer) g) ∙ e in
+          record { test = d; many = cc; output = ap (λ (y : Written). y .output) g }
+      go false d =
+          let f : Refused (record { number = 4; value = length (answerLine line) }) ≡ Wrote n = sym (ap (λ (y : Written). y .answer) (too-long (leb-false (length (answerLine line)) (length out) d))) ∙ e in
+          let z : _≡_ {A = ℕ} 0 1 = cc in
+          absurd (omega arith)
+
+-- a byte with so much of an output behind a place
+module _ (s : Begun) (b : ℕ) (out : List ℕ) (at : ℕ) (inside : at ≤ length out) where
+  abbrev left : ℕ
+  left = length out - at
+
+  abbrev fed : ByteFed
+  fed = byteFed s b left
+
+  -- what the step and the output are
+  pub record Stepped (r : Step) (after : List ℕ) : Type 0 where
+    pub step : r ≡ stepOf at fed
+    pub output : after ≡ putAt at (fed .text) out
+
+  stepped : (f : ByteFed) (r : Step) (after : List ℕ) → fed ≡ f → r ≡ stepOf at f → after ≡ putAt at (f .text) out → Stepped r after
+  stepped f r after e p q = record { step = p ∙ ap (stepOf at) (sym e); output = q ∙ ap (λ (g : ByteFed). putAt at (g .text) out) (sym e) }
+
+  nothing-put : out ≡ putAt at [] out
+  nothing-put = sym (take-append-drop at out)
+
+  behind : drop left (drop at out) ≡ []
+  behind = drop-of-length-le (drop at out) {i = left} (simp length-drop (omega arith))
+
+  pub whole : take left (drop at out) ≡ drop at out
+  whole = take-all left (drop at out) (simp length-drop (omega arith))
+
+  as-it-was : (part : List ℕ) → part ≡ take left (drop at out) → take at out ++ (part ++ drop left (drop at out)) ≡ putAt at [] out
+  as-it-was part e = ap (λ (l : List ℕ). take at out ++ (l ++ drop left (drop at out))) (e ∙ whole) ∙ ap (λ (l : List ℕ). take at out ++ (drop at out ++ l)) behind ∙ ap (λ (l : List ℕ). take at out ++ l) (append-nil (drop at out))
+
+  pub is-kept : (b ≡ newline → ⊥) → (x : Begun) → x ≡ kept s b → Stepped (record { state = x; at = at; stuck = false }) out
+  unfolding byteFed
+  is-kept h x e =
+      let f : ByteFed = record { state = kept s b; text = []; stuck = false } in
+      let m : at ≡ at + 0 = omega arith in
+      stepped f (record { state = x; at = at; stuck = false }) out (ap (λ (c : Bool). byteIf c (leb (length (answerLine (lineOf s))) left) s b) (ne-eqb b newline h))
+      (ap₂ (λ (y : Begun) (k : ℕ). record { state = y; at = k; stuck = false }) e m) nothing-put
+
+  module _ (nl : b ≡ newline) (line part : List ℕ) (l : line ≡ lineOf s) where
+    room-there : length (take left (drop at out)) ≡ left
+    room-there = simp (length-take, length-drop) (omega arith)
+
+    newlined : (fit : Bool) → leb (length (answerLine line)) (length (take left (drop at out))) ≡ fit → fed ≡ byteIf true fit s b
+    unfolding byteFed
+    newlined fit e = ap₂ (λ (c d : Bool). byteIf c d s b) (eq-eqb b newline nl) (ap₂ (λ (k : List ℕ) (n : ℕ). leb (length (answerLine k)) n) (sym l) (sym room-there) ∙ e)
+
+    pub is-stuck : (x : Refusal) → drillLine line (take left (drop at out)) .answer ≡ Refused x → part ≡ drillLine line (take left (drop at out)) .output
+        → Stepped (record { state = s; at = at; stuck = true }) (take at out ++ (part ++ drop left (drop at out)))
+    is-stuck x a p =
+        let no = no-room line (take left (drop at out)) x a in
+        let f : ByteFed = record { state = s; text = []; stuck = true } in
+        let m : at ≡ at + 0 = omega arith in
+        stepped f (record { state = s; at = at; stuck = true }) (take at out ++ (part ++ drop left (drop at out))) (newlined false (no .test))
+        (ap (λ (k : ℕ). record { state = s; at = k; stuck = true }) m) (as-it-was part (p ∙ no .output))
+
+    pub is-answered : (n : ℕ) → drillLine line (take left (drop at out)) .answer ≡ Wrote n → part ≡ drillLine line (take left (drop at out)) .output
+        → Stepped (record { state = ended s; at = at + n; stuck = false }) (take at out ++ (part ++ drop left (drop at out)))
+    is-answered n a p =
+        let yes = room line (take left (drop at out)) n a in
+        let text = answerLine (lineOf s) in
+        let f : ByteFed = record { state = ended s; text = text; stuck = false } in
+        let long : n ≡ length text = yes .many ∙ ap (λ (k : List ℕ). length (answerLine k)) l in
+        let front : part ≡ atFront text (drop at out) = p ∙ yes .output ∙ ap₂ (λ (k o : List ℕ). atFront (answerLine k) o) l whole in
+        stepped f (record { state = ended s; at = at + n; stuck = false }) (take at out ++ (part ++ drop left (drop at out))) (newlined true (yes .test))
+        (ap (λ (k : ℕ). record { state = ended s; at = at + k; stuck = false }) long)
+        (ap₂ (λ (x y : List ℕ). take at out ++ (x ++ y)) front behind ∙ ap (λ (x : List ℕ). take at out ++ x) (append-nil (atFront text (drop at out))))
+
+    pub fits-there : (n : ℕ) → drillLine line (take left (drop at out)) .answer ≡ Wrote n → at + n ≤ length out
+    fits-there n a =
+        let yes = room line (take left (drop at out)) n a in
+        omega (arith, yes .many, leb-true (length (answerLine line)) (length (take left (drop at out))) (yes .test), room-there)
+
+-- the last line
+pub some-line : (line out : List ℕ) → 0 < length line → drillLine line out ≡ finishOr line out
+some-line [] out h = absurd (omega arith)
+some-line (b ∷ bs) out h = refl
+
+pub some-kept : (s : Begun) → length (s .line) ≡ mostKept → (s .length ≡ 0 → ⊥) → 0 < length (lineOf s)
+some-kept s long h = go (s .length) refl
+  where
+    go : (n : ℕ) → s .length ≡ n → 0 < length (lineOf s)
+    go n e = simp length-take (omega (arith, h))

@@ -1,0 +1,5 @@
+pub mod Bytes
+pub mod Turns
+pub mod FirstBytes
+pub mod Runs
+pub mod One

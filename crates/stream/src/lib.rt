@@ -1,0 +1,140 @@
+// A stream of drill lines through fixed buffers: lines of any length, in blocks cut anywhere.
+ghost use mathlib.Core.Path.{_≡_};
+ghost use Prim.Native.Nat.{_-_, _≤_, min};
+ghost use lib.ListN.{length, drop};
+ghost use Rattle.rules.specs.TheWord.{atFront};
+ghost use Rattle.rules.specs.Drill.{header as headerOf};
+ghost use Rattle.output.specs.Front.{put};
+ghost use Rattle.stream.specs.Feeding.{mostKept, noneBegun, kept as keptOf, byteFed, feeding, putAt, stepOf, fedOf, finishing};
+use rules::WriteAnswer;
+
+// The line that has begun: its first bytes, as many as an answer can depend on, and how many they are.
+pub struct Begun {
+    pub line: [u8; 35],
+    pub length: usize,
+}
+
+// After a block or a part of it: the state, the place in the block where the next byte stands, and the bytes written.
+pub struct Fed {
+    pub state: Begun,
+    pub taken: usize,
+    pub written: usize,
+}
+
+// After one byte: the state, the place in the output behind what is written, and whether there was no room.
+struct Step {
+    state: Begun,
+    at: usize,
+    stuck: bool,
+}
+
+impl Begun {
+    pub const MOST: usize = 35;
+
+    pub fn new() -> Begun
+        ensures { λ r. ⌜ r ≡ noneBegun ⌝ }
+    {
+        Begun {
+            line: [0; 35],
+            length: 0,
+        }
+    }
+}
+
+// The first line of every run, at the front of the output. Refusals: 4 with the bytes needed; the output is then as it was.
+pub fn header(out: &mut [u8]) -> WriteAnswer
+    ensures { λ r. ⌜ (r ≡ put headerOf (now (out .entry)) .answer) × (now (out .exit) ≡ put headerOf (now (out .entry)) .output) ⌝ }
+{
+    output::write(b"shown commit verdict tone place decision\n", out)
+}
+
+fn least(a: usize, b: usize) -> usize
+    ensures { λ r. ⌜ r ≡ min a b ⌝ }
+{
+    if a < b { a } else { b }
+}
+
+fn kept(state: Begun, b: u8) -> Begun
+    ensures { λ r. ⌜ r ≡ keptOf state b ⌝ }
+{
+    let length = state.length;
+    if length < Begun::MOST {
+        let mut line = state.line;
+        line[length] = b;
+        return Begun {
+            line: line,
+            length: length + 1,
+        };
+    }
+    state
+}
+
+fn feed_byte(state: Begun, b: u8, out: &mut [u8], at: usize) -> Step
+    requires { ⌜ at ≤ length (now out) ⌝ }
+    ensures { λ r. ⌜ (r ≡ stepOf at (byteFed state b (length (now (out .entry)) - at))) × (now (out .exit) ≡ putAt at (byteFed state b (length (now (out .entry)) - at) .text) (now (out .entry))) ⌝ }
+{
+    if b != b'\n' {
+        return Step {
+            state: kept(state, b),
+            at: at,
+            stuck: false,
+        };
+    }
+    let line = state.line;
+    let n = least(state.length, Begun::MOST);
+    let answer = lines::answer_line(&line[0..n], &mut out[at..]);
+    let WriteAnswer::Wrote(written) = answer else {
+        return Step {
+            state: state,
+            at: at,
+            stuck: true,
+        };
+    };
+    Step {
+        state: Begun {
+            line: line,
+            length: 0,
+        },
+        at: at + written,
+        stuck: false,
+    }
+}
+
+// The bytes of a block from a place on, until it ends or the output has no room for the next answer.
+pub fn feed(state: Begun, block: &[u8], from: usize, out: &mut [u8]) -> Fed
+    ensures { λ r. ⌜ (r ≡ fedOf from (feeding state (drop from (now (block .entry))) (length (now (out .entry))))) × (now (out .exit) ≡ atFront (feeding state (drop from (now (block .entry))) (length (now (out .entry))) .text) (now (out .entry))) ⌝ }
+{
+    let mut s = state;
+    let mut at = 0;
+    let mut i = from;
+    while i < block.len() {
+        let step = feed_byte(s, block[i], out, at);
+        if step.stuck {
+            return Fed {
+                state: s,
+                taken: i,
+                written: at,
+            };
+        }
+        s = step.state;
+        at = step.at;
+        i += 1;
+    }
+    Fed {
+        state: s,
+        taken: i,
+        written: at,
+    }
+}
+
+// The end of the input: a last line without a newline, if one has begun. Refusals: 4 with the bytes needed; the output is then as it was.
+pub fn finish(state: Begun, out: &mut [u8]) -> WriteAnswer
+    ensures { λ r. ⌜ (r ≡ finishing state (now (out .entry)) .answer) × (now (out .exit) ≡ finishing state (now (out .entry)) .output) ⌝ }
+{
+    if state.length == 0 {
+        return WriteAnswer::Wrote(0);
+    }
+    let line = state.line;
+    let n = least(state.length, Begun::MOST);
+    lines::answer_line(&line[0..n], out)
+}

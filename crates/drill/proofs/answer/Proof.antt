@@ -1,0 +1,39 @@
+-- `drill::answer` is safe and ends: each turn takes a byte at least. The output keeps its length.
+use mathlib.Core.Path.{_≡_, refl}
+use Prim.Native.Nat.{_-_}
+use native.Mathlib.Omega.{arith}
+use lib.ListN.{length, drop}
+use borrow.Author.Needs.{needs}
+use Rattle.stream.specs.Feeding.{feeding}
+use Rattle.drill.proofs.Lengths.{fed-in-front}
+use Rattle.drill.proofs.answer.Statement.{statement}
+use Rattle.drill.proofs.answer.Tie as tie
+
+abbrev Inv-loop : tie.InvT-loop
+Inv-loop block out₀ s₀ from₀ out s from = length out ≡ length out₀
+
+abbrev μ-loop : tie.MeasureT-loop
+μ-loop block out₀ s₀ from₀ out s from = length block - from
+
+pub answer-spec : {M : Type 1} → statement M
+answer-spec =
+    tie.close
+    (tie.spec Inv-loop μ-loop
+    (λ c. refl)
+    (λ c κs. search needs)
+    (λ c. search needs)
+    (λ c. search needs)
+    (λ c.
+    let fed = c .before .before .before in
+    let loop = fed .before .before .before in
+    let block = loop .before .before .before .args .block .now in
+    fed-in-front (loop .loop .from) (feeding (loop .loop .s) (drop (loop .loop .from) block) (length (loop .loop .out))) (loop .loop .out) _ (fed .feed .result) (fed .feed .ensures .0) (fed .feed .ensures .1))
+    (λ c κs. search needs)
+    (λ c. search needs)
+    (λ c. search needs)
+    (λ c. search needs)
+    (λ c. search needs)
+    (λ c. omega (arith, c .before .if2 .left, c .before .before .before .before .before .before .before .before .before .before .loop-test .taken))
+    (λ c. search needs)
+    (λ c. c .before .loop .inv)
+    (λ c. search needs))

@@ -1,0 +1,114 @@
+// The drill: each line of standard input answered on standard output, behind a header.
+// Reads, feeds and writes; a failed read or write ends the run, with what was answered so far written out and a message on standard error.
+use libc::STDERR_FILENO;
+use libc::STDIN_FILENO;
+use libc::STDOUT_FILENO;
+use rules::WriteAnswer;
+use stream::Begun;
+
+// What follows a read: more of the input, its end, or a failure.
+enum Next {
+    More,
+    Ended,
+    Failed,
+}
+
+struct Passed {
+    state: Begun,
+    next: Next,
+}
+
+fn written(text: &[u8]) -> bool {
+    let all = io::write_all(STDOUT_FILENO, text);
+    if !all {
+        io::write_all(STDERR_FILENO, b"drill: cannot write\n");
+    }
+    all
+}
+
+// The answers to a block, an output full at a time. An output with no room for one answer would be a failure too.
+fn answer(state: Begun, block: &[u8], out: &mut [u8]) -> Passed {
+    let mut s = state;
+    let mut from = 0;
+    while from < block.len() {
+        let fed = stream::feed(s, block, from, out);
+        let n = fed.written;
+        let taken = fed.taken;
+        if !written(&out[0..n]) {
+            return Passed {
+                state: s,
+                next: Next::Failed,
+            };
+        }
+        if taken <= from {
+            return Passed {
+                state: s,
+                next: Next::Failed,
+            };
+        }
+        s = fed.state;
+        from = taken;
+    }
+    Passed {
+        state: s,
+        next: Next::More,
+    }
+}
+
+// One read, and the answers to what came.
+fn pass(state: Begun, block: &mut [u8], out: &mut [u8]) -> Passed {
+    let got = libc::read(STDIN_FILENO, block);
+    if got < 0 {
+        io::write_all(STDERR_FILENO, b"drill: cannot read\n");
+        return Passed {
+            state: state,
+            next: Next::Failed,
+        };
+    }
+    if got == 0 {
+        return Passed {
+            state: state,
+            next: Next::Ended,
+        };
+    }
+    let n = io::count(got, block);
+    answer(state, &block[..n], out)
+}
+
+// A last line without a newline.
+fn end(state: Begun, out: &mut [u8]) {
+    let WriteAnswer::Wrote(n) = stream::finish(state, out) else {
+        return;
+    };
+    written(&out[0..n]);
+}
+
+// Nothing says that the input ends, so the loop counts its turns down, from a number that no run uses up.
+fn run(block: &mut [u8], out: &mut [u8]) {
+    let mut state = Begun::new();
+    let mut turns = u64::MAX;
+    while turns > 0 {
+        let read = pass(state, block, out);
+        let next = read.next;
+        if let Next::Ended = next {
+            end(read.state, out);
+            return;
+        }
+        if let Next::Failed = next {
+            return;
+        }
+        state = read.state;
+        turns -= 1;
+    }
+}
+
+fn main() {
+    let mut block = io::large_buffer();
+    let mut out = io::large_buffer();
+    let WriteAnswer::Wrote(n) = stream::header(&mut out) else {
+        return;
+    };
+    if written(&out[0..n]) {
+        run(&mut block, &mut out);
+    }
+}

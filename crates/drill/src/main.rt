@@ -1,5 +1,8 @@
 // The drill: each line of standard input answered on standard output, behind a header.
 // Reads, feeds and writes; a failed read or write ends the run, with what was answered so far written out and a message on standard error.
+ghost use Prim.Native.Nat.{_≤_};
+ghost use lib.ListN.{length};
+ghost use Rattle.lines.specs.Appending.{mostInLine};
 use libc::STDERR_FILENO;
 use libc::STDIN_FILENO;
 use libc::STDOUT_FILENO;
@@ -26,28 +29,23 @@ fn written(text: &[u8]) -> bool {
     all
 }
 
-// The answers to a block, an output full at a time. An output with no room for one answer would be a failure too.
-fn answer(state: Begun, block: &[u8], out: &mut [u8]) -> Passed {
+// The answers to a block, an output full at a time.
+fn answer(state: Begun, block: &[u8], out: &mut [u8]) -> Passed
+    requires { ⌜ mostInLine ≤ length (now out) ⌝ }
+{
     let mut s = state;
     let mut from = 0;
     while from < block.len() {
         let fed = stream::feed(s, block, from, out);
         let n = fed.written;
-        let taken = fed.taken;
         if !written(&out[0..n]) {
             return Passed {
                 state: s,
                 next: Next::Failed,
             };
         }
-        if taken <= from {
-            return Passed {
-                state: s,
-                next: Next::Failed,
-            };
-        }
         s = fed.state;
-        from = taken;
+        from = fed.taken;
     }
     Passed {
         state: s,
@@ -56,7 +54,9 @@ fn answer(state: Begun, block: &[u8], out: &mut [u8]) -> Passed {
 }
 
 // One read, and the answers to what came.
-fn pass(state: Begun, block: &mut [u8], out: &mut [u8]) -> Passed {
+fn pass(state: Begun, block: &mut [u8], out: &mut [u8]) -> Passed
+    requires { ⌜ mostInLine ≤ length (now out) ⌝ }
+{
     let got = libc::read(STDIN_FILENO, block);
     if got < 0 {
         io::write_all(STDERR_FILENO, b"drill: cannot read\n");
@@ -84,7 +84,9 @@ fn end(state: Begun, out: &mut [u8]) {
 }
 
 // Nothing says that the input ends, so the loop counts its turns down, from a number that no run uses up.
-fn run(block: &mut [u8], out: &mut [u8]) {
+fn run(block: &mut [u8], out: &mut [u8])
+    requires { ⌜ mostInLine ≤ length (now out) ⌝ }
+{
     let mut state = Begun::new();
     let mut turns = u64::MAX;
     while turns > 0 {

@@ -1,4 +1,5 @@
 pub mod Columns
 pub mod Words
 pub mod Starts
+pub mod Fits
 pub mod One

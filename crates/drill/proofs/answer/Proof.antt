@@ -1,10 +1,13 @@
 -- `drill::answer` is safe and ends: each turn takes a byte at least. The output keeps its length.
-use mathlib.Core.Path.{_≡_, refl}
-use Prim.Native.Nat.{_-_}
+use mathlib.Core.Path.{_≡_, refl, ap}
+use Prim.Native.Nat.{_-_, _≤_, _<_}
 use native.Mathlib.Omega.{arith}
-use lib.ListN.{length, drop}
+use lib.ListN.{length, drop, length-drop}
 use borrow.Author.Needs.{needs}
+use Rattle.lines.specs.Appending.{mostInLine}
 use Rattle.stream.specs.Feeding.{feeding}
+use Rattle.stream.specs.declared.Fed.{Fed}
+use Rattle.stream.proofs.Rooms.{some-taken}
 use Rattle.drill.proofs.Lengths.{fed-in-front}
 use Rattle.drill.proofs.answer.Statement.{statement}
 use Rattle.drill.proofs.answer.Tie as tie
@@ -31,9 +34,15 @@ answer-spec =
     (λ c κs. search needs)
     (λ c. search needs)
     (λ c. search needs)
-    (λ c. search needs)
-    (λ c. search needs)
-    (λ c. omega (arith, c .before .if2 .left, c .before .before .before .before .before .before .before .before .before .before .loop-test .taken))
+    (λ c.
+    let fed = c .before .before .before .before .before .before .before in
+    let turn = fed .before .before in
+    let loop = turn .before in
+    let at = loop .before .before .before in
+    let rest = drop (loop .loop .from) (at .args .block .now) in
+    let room : mostInLine ≤ length (loop .loop .out) = omega (arith, loop .loop .inv, at .pre) in
+    let more : 0 < length rest = simp length-drop (omega (arith, turn .loop-test .taken)) in
+    omega (arith, turn .loop-test .taken, ap (λ (r : Fed). r .taken) (fed .feed .ensures .0), some-taken (loop .loop .s) rest (length (loop .loop .out)) room more))
     (λ c. search needs)
     (λ c. c .before .loop .inv)
     (λ c. search needs))

@@ -1,0 +1,225 @@
+//! Makes drill lines or speller lines from a seed, runs a program on them, and compares every
+//! byte of its answers with what the second reading of document 01 (rules.rs) says.
+//!
+//!     second drill PROGRAM LINES SEED
+//!     second spell PROGRAM LINES SEED
+
+mod rules;
+
+use rules::{Letter, Mode};
+use std::io::{Read, Write};
+use std::process::{Command, ExitCode, Stdio};
+
+/// Marsaglia's xorshift: the same lines from the same seed on every machine.
+struct Dice(u64);
+
+impl Dice {
+    fn roll(&mut self, n: usize) -> usize {
+        self.0 ^= self.0 << 13;
+        self.0 ^= self.0 >> 7;
+        self.0 ^= self.0 << 17;
+        (self.0 >> 11) as usize % n
+    }
+
+    fn of<'a, T>(&mut self, all: &'a [T]) -> &'a T {
+        &all[self.roll(all.len())]
+    }
+}
+
+fn in_some_case(dice: &mut Dice, key: u8) -> u8 {
+    if dice.roll(8) == 0 { key.to_ascii_uppercase() } else { key }
+}
+
+/// A valid syllable with a tone that fits it, in some mix of capitals.
+fn syllable(dice: &mut Dice, forms: &[Vec<Letter>]) -> (Vec<Letter>, usize) {
+    let mut w = dice.of(forms).clone();
+    for x in &mut w {
+        x.capital = dice.roll(6) == 0;
+    }
+    loop {
+        let tone = dice.roll(6);
+        if rules::verdict(&w, tone) == 0 {
+            return (w, tone);
+        }
+    }
+}
+
+/// Its bare letters, and its stroke, shape and tone keys.
+fn bare_and_marks(mode: Mode, w: &[Letter], tone: usize) -> (Vec<u8>, Vec<u8>) {
+    let bare: Vec<u8> = w.iter().map(|x| if x.capital { x.base.to_ascii_uppercase() } else { x.base } as u8).collect();
+    let mut letters = bare.iter().peekable();
+    let mut marks = vec![];
+    for key in rules::standard_keys(mode, w, tone).bytes() {
+        if letters.peek() == Some(&&key) {
+            letters.next();
+        } else {
+            marks.push(key);
+        }
+    }
+    (bare, marks)
+}
+
+fn shuffle(dice: &mut Dice, keys: &mut [u8]) {
+    for i in (1..keys.len()).rev() {
+        keys.swap(i, dice.roll(i + 1));
+    }
+}
+
+/// One byte taken out, put in, doubled or exchanged for another.
+fn slip(dice: &mut Dice, keys: &mut Vec<u8>, other: &[u8]) {
+    let at = dice.roll(keys.len() + 1);
+    let key = *dice.of(other);
+    match dice.roll(4) {
+        0 => keys.insert(at, key),
+        _ if at == keys.len() => keys.push(key),
+        1 => drop(keys.remove(at)),
+        2 => keys.insert(at, keys[at]),
+        _ => keys[at] = key,
+    }
+}
+
+fn some_bytes(dice: &mut Dice, most: usize, from: &[u8]) -> Vec<u8> {
+    (0..dice.roll(most + 1)).map(|_| *dice.of(from)).collect()
+}
+
+fn any_bytes(dice: &mut Dice, most: usize) -> Vec<u8> {
+    (0..dice.roll(most + 1)).map(|_| dice.roll(256) as u8).filter(|&b| b != b'\n').collect()
+}
+
+const KEYS: &[u8] = b"aeiouyaeiouydgqhnctpmbklrsvxwsfrxjzADEOUW0123456789";
+
+fn drill_keys(dice: &mut Dice, mode: Mode, forms: &[Vec<Letter>]) -> Vec<u8> {
+    let (w, tone) = syllable(dice, forms);
+    let (mut keys, mut marks) = bare_and_marks(mode, &w, tone);
+    match dice.roll(10) {
+        // the bare letters, then the marks in any order and case
+        0 | 1 => {
+            shuffle(dice, &mut marks);
+            for key in marks {
+                let key = in_some_case(dice, key);
+                keys.push(key);
+            }
+        }
+        // the marks anywhere
+        2 | 3 => {
+            for key in marks {
+                let at = dice.roll(keys.len() + 1);
+                keys.insert(at, key);
+            }
+        }
+        4 => keys = rules::standard_keys(mode, &w, tone).into_bytes(),
+        // near misses
+        5 | 6 => {
+            keys.extend(marks);
+            for _ in 0..1 + dice.roll(2) {
+                slip(dice, &mut keys, KEYS);
+            }
+        }
+        7 | 8 => keys = some_bytes(dice, 10, KEYS),
+        _ => {
+            keys = match dice.roll(4) {
+                0 => any_bytes(dice, 40),
+                1 => some_bytes(dice, 40, KEYS),
+                2 => vec![*dice.of(KEYS); 30 + dice.roll(5)],
+                _ => some_bytes(dice, 3000, KEYS),
+            }
+        }
+    }
+    keys
+}
+
+fn spell_text(dice: &mut Dice, forms: &[Vec<Letter>]) -> Vec<u8> {
+    let (w, tone) = syllable(dice, forms);
+    let text = rules::shown(&w, tone);
+    let mut bytes = text.clone().into_bytes();
+    match dice.roll(10) {
+        0..=3 => {}
+        // the tone on another letter, or a second one
+        4 | 5 => {
+            let letters: Vec<char> = text.chars().collect();
+            let mut other = letters.clone();
+            let at = dice.roll(letters.len());
+            other[at] = *dice.of(&"áàảãạếệốộơờúưựýaeiouyđĐÁ".chars().collect::<Vec<_>>());
+            bytes = other.into_iter().collect::<String>().into_bytes();
+        }
+        // cut, doubled, foreign or random bytes
+        6 | 7 => slip(dice, &mut bytes, &[0xC3, 0xE1, 0xBB, 0x80, 0xC0, 0xF0, b'a', b'1', b' ', 0xBF, 0xC4, 0x91]),
+        8 => bytes = rules::shown(&dice.of(forms).clone(), dice.roll(6)).repeat(1 + dice.roll(40)).into_bytes(),
+        _ => bytes = any_bytes(dice, 110),
+    }
+    bytes
+}
+
+fn line(dice: &mut Dice, spell: bool, forms: &[Vec<Letter>]) -> Vec<u8> {
+    if dice.roll(60) == 0 {
+        let odd: [&[u8]; 9] = [b"", b"T", b"V", b"t a", b"T\ta", b"X a", b" T a", b"TT a", b"T "];
+        return dice.of(&odd).to_vec();
+    }
+    let mode = *dice.of(&[Mode::Telex, Mode::Vni]);
+    let mut line = if mode == Mode::Telex { b"T ".to_vec() } else { b"V ".to_vec() };
+    line.extend(if spell { spell_text(dice, forms) } else { drill_keys(dice, mode, forms) });
+    line
+}
+
+fn answers_of(program: &str, input: Vec<u8>) -> std::io::Result<Vec<u8>> {
+    let mut child = Command::new(program).stdin(Stdio::piped()).stdout(Stdio::piped()).spawn()?;
+    let mut to = child.stdin.take().unwrap();
+    let writer = std::thread::spawn(move || to.write_all(&input));
+    let mut output = vec![];
+    child.stdout.take().unwrap().read_to_end(&mut output)?;
+    writer.join().unwrap()?;
+    let status = child.wait()?;
+    if !status.success() {
+        eprintln!("second: {program} ended with {status}");
+    }
+    Ok(output)
+}
+
+fn main() -> ExitCode {
+    let args: Vec<String> = std::env::args().collect();
+    let [_, what, program, count, seed] = &args[..] else {
+        eprintln!("usage: second drill|spell PROGRAM LINES SEED");
+        return ExitCode::from(2);
+    };
+    let spell = what == "spell";
+    let count: usize = count.parse().expect("a number of lines");
+    let seed: u64 = seed.parse().expect("a seed");
+    let forms = rules::all_forms();
+    let mut dice = Dice(seed.wrapping_mul(0x9E37_79B9_7F4A_7C15) | 1);
+    let lines: Vec<Vec<u8>> = (0..count).map(|_| line(&mut dice, spell, &forms)).collect();
+    let mut input = lines.join(&b'\n');
+    input.push(b'\n');
+    let output = match answers_of(program, input) {
+        Ok(output) => output,
+        Err(e) => {
+            eprintln!("second: {program}: {e}");
+            return ExitCode::FAILURE;
+        }
+    };
+    let header: &[u8] = if spell { b"" } else { b"shown commit verdict tone place decision\n" };
+    let Some(rest) = output.strip_prefix(header) else {
+        eprintln!("second: the header is missing");
+        return ExitCode::FAILURE;
+    };
+    let mut answers = rest.split_inclusive(|&b| b == b'\n');
+    let mut wrong = 0;
+    for line in &lines {
+        let mut expected = if spell { rules::spell_line(line) } else { rules::drill_line(line) };
+        expected.push(b'\n');
+        let got = answers.next().unwrap_or(b"");
+        if got != expected {
+            wrong += 1;
+            if wrong <= 10 {
+                let show = |b: &[u8]| String::from_utf8_lossy(b).trim_end().to_string();
+                eprintln!("second: {:?}: expected {:?}, got {:?}", show(line), show(&expected), show(got));
+            }
+        }
+    }
+    let more = answers.count();
+    if wrong + more != 0 {
+        eprintln!("second: {wrong} of {count} {what} lines differ, {more} answers too many (seed {seed})");
+        return ExitCode::FAILURE;
+    }
+    println!("second: {count} {what} lines, every byte of the answers as expected (seed {seed})");
+    ExitCode::SUCCESS
+}

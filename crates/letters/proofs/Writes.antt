@@ -1,23 +1,25 @@
 -- What is written of a number and a tone, case by case as the code goes.
 use mathlib.Core.Path.{_≡_, refl, sym, ap, ap₂, _∙_}
-use mathlib.Core.Bool.{Bool, true, false, _&&_, _||_}
+use mathlib.Core.Bool.{Bool, true, false, not, _&&_, _||_}
 use mathlib.Core.List.{[]}
 use Prim.Native.Nat.{ℕ, _+_, _*_, _≤_, _<_, _/_, _%_}
 use Prim.Native.Char.{code}
 use native.Mathlib.Omega.{arith}
-use lib.Dec.{eqb, leb, ltb}
+use lib.Dec.{T, eqb, eqb→eq, leb, ltb}
 use lib.ListN.{getD}
-use borrow.Author.Tests.{lt-ltb, le-ltb, le-leb, lt-leb, eq-eqb, ne-eqb, eqb-true, eqb-false, ltb-true, ltb-false}
+use borrow.Author.Tests.{lt-ltb, le-ltb, le-leb, lt-leb, eq-eqb, ne-eqb, eqb-true, eqb-false, leb-true, ltb-true, ltb-false}
 use Rattle.rules.specs.Letters.{vni, noTone, dot, stroke, named, carries}
 use Rattle.rules.specs.TakingApart.{vowel}
 use Rattle.rules.specs.TheWord.{letter, number, capitalNumber}
 use Rattle.rules.specs.KeyRoles.{isSmall, isDigit}
 use Rattle.rules.specs.CodePoints.{vowels, sign, smallPoint, inCase, point, utf8}
 use Rattle.rules.specs.Refusals.{noCapitalDigit}
+use Rattle.letters.specs.declared.LetterBytes.{LetterBytes}
 use Rattle.letters.specs.declared.LetterBytes.the-variants.{One, Two, Three, NoLetter}
 use Rattle.letters.specs.Rows.{rowIn, rowOf, pointsIn, pointsOf}
 use Rattle.letters.specs.Writing.{isLetter, toneStands, bytesOf, written}
-use Rattle.keys.proofs.Bools.{first}
+use Rattle.keys.proofs.Bools.{first, second, either}
+use Rattle.letters.proofs.Tables.{eachBelow, below}
 use Rattle.letters.proofs.Points.{Rowed, rowed-at, small-number, small-row, in-row, in-no-row}
 
 -- UTF-8 of a code point, by its length
@@ -45,6 +47,71 @@ number-back n = go (ltb n 4096) refl
     go : (b : Bool) → ltb n 4096 ≡ b → eqb (number (letter n)) n ≡ b
     go true e = eq-eqb (number (letter n)) n (back n (letter n .capital) refl (ltb-true n 4096 e))
     go false e = ne-eqb (number (letter n)) n (too-small n (letter n .capital) (ltb-false n 4096 e))
+
+-- what makes a number a letter, test by test
+abbrev letterIf : (own small vniMode digit carried capital : Bool) → Bool
+letterIf own small vniMode digit carried capital = (own && (small || (vniMode && digit))) && (carried && not (digit && capital))
+
+no-digit : (b : ℕ) → isSmall b ≡ true → isDigit b ≡ false
+no-digit b e =
+    let least = leb-true (code "a") b (first (leb (code "a") b) (leb b (code "z")) e) in
+    go (leb (code "0") b) (lt-leb b (code "9") (omega arith))
+  where
+    go : (p : Bool) → leb b (code "9") ≡ false → p && leb b (code "9") ≡ false
+    go true d = d
+    go false d = refl
+
+module _ (mode n : ℕ) where
+  abbrev isVni : Bool
+  isVni = eqb mode vni
+
+  abbrev carried : Bool
+  carried = carries (n / 256 % 8) (n % 256)
+
+  pub too-large : 4096 ≤ n → false ≡ isLetter mode n
+  too-large h = ap (λ (p : Bool). letterIf p (isSmall (n % 256)) isVni (isDigit (n % 256)) carried (letter n .capital)) (sym (number-back n ∙ le-ltb n 4096 h))
+
+  own : n < 4096 → true ≡ eqb (number (letter n)) n
+  own h = sym (number-back n ∙ lt-ltb n 4096 h)
+
+  pub small-letter : n < 4096 → isSmall (n % 256) ≡ true → carried ≡ isLetter mode n
+  small-letter h e = plainly carried ∙ (λ j. letterIf (own h j) (sym e j) isVni (sym (no-digit (n % 256) e) j) carried (letter n .capital))
+    where
+      plainly : (c : Bool) → c ≡ letterIf true true isVni false c (letter n .capital)
+      plainly true = refl
+      plainly false = refl
+
+  pub other-letter : n < 4096 → isSmall (n % 256) ≡ false → (isVni && isDigit (n % 256)) && (carried && not (isDigit (n % 256) && letter n .capital)) ≡ isLetter mode n
+  other-letter h e = λ j. letterIf (own h j) (sym e j) isVni (isDigit (n % 256)) carried (letter n .capital)
+
+-- a small letter with no mark is its own byte: computed over each
+abbrev isOne : ℕ → LetterBytes → Bool
+isOne n (One a) = eqb n a
+isOne n (Two a b) = false
+isOne n (Three a b c) = false
+isOne n NoLetter = false
+
+abbrev bare : ℕ → Bool
+bare n = not (isSmall n) || isOne n (written n noTone)
+
+bare-all : T (eachBelow bare 128)
+unfolding written
+bare-all = tt
+
+pub fits-a-byte : (n t : ℕ) → isSmall n && eqb t noTone ≡ true → n < 128
+fits-a-byte n t e = omega (arith, leb-true n (code "z") (second (leb (code "a") n) (leb n (code "z")) (first (isSmall n) (eqb t noTone) e)))
+
+pub own-byte : (n t : ℕ) → isSmall n && eqb t noTone ≡ true → One n ≡ written n t
+own-byte n t e =
+    let s = first (isSmall n) (eqb t noTone) e in
+    go (written n noTone) (either (isSmall n) (isOne n (written n noTone)) (below bare 128 bare-all n (fits-a-byte n t e)) s) ∙
+    ap (written n) (sym (eqb-true t noTone (second (isSmall n) (eqb t noTone) e)))
+  where
+    go : (b : LetterBytes) → T (isOne n b) → One n ≡ b
+    go (One a) i = ap One (eqb→eq n a i)
+    go (Two a b) i = absurd i
+    go (Three a b c) i = absurd i
+    go NoLetter i = absurd i
 
 -- a letter's parts
 pub letter-rowed : (n : ℕ) → isLetter vni n ≡ true → Rowed n

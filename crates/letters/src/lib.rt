@@ -1,8 +1,11 @@
 // The alphabet in code: which shape a base carries, the bytes of a letter, and the letter that stands at a place of a text.
 ghost use mathlib.Core.Path.{_≡_};
+ghost use mathlib.Core.Bool.{_&&_};
 ghost use Prim.Native.Nat.{_<_, _≤_};
-ghost use Rattle.rules.specs.Letters.{carries as carriesShape};
+ghost use lib.Dec.{eqb};
+ghost use Rattle.rules.specs.Letters.{noTone, carries as carriesShape};
 ghost use Rattle.rules.specs.TheWord.{letter as letterOfNumber};
+ghost use Rattle.rules.specs.KeyRoles.{isSmall};
 ghost use Rattle.rules.specs.CodePoints.{capitalPoint, inCase, utf8 as utf8Of};
 ghost use Rattle.letters.specs.Decoding.{followsOn, oneByte, InTwo, pointOfTwo, twoBytes, InThree, pointOfThree, threeBytes, readAs};
 ghost use Rattle.letters.specs.Reading.{readAt};
@@ -49,22 +52,29 @@ const CAPITAL_D_STROKE_POINT: u16 = D_STROKE_POINT - 1;
 pub fn carries(shape: u8, base: u8) -> bool
     ensures { λ r. ⌜ r ≡ carriesShape shape base ⌝ }
 {
-    (shape == PLAIN)
-        | (((shape == CIRCUMFLEX) & ((base == b'a') | ((base == b'e') | (base == b'o'))))
-            | (((shape == BREVE) & (base == b'a'))
-                | (((shape == HORN) & ((base == b'o') | (base == b'u')))
-                    | ((shape == STROKE) & (base == b'd')))))
+    if shape == PLAIN {
+        return true;
+    }
+    ((shape == CIRCUMFLEX) & ((base == b'a') | ((base == b'e') | (base == b'o'))))
+        | (((shape == BREVE) & (base == b'a'))
+            | (((shape == HORN) & ((base == b'o') | (base == b'u')))
+                | ((shape == STROKE) & (base == b'd'))))
 }
 
 // A number that is a letter which a word of the mode can hold.
 pub fn is_letter(mode: u8, letter: u16) -> bool
     ensures { λ r. ⌜ r ≡ isLetter mode letter ⌝ }
 {
+    if 2 * CAPITAL <= letter {
+        return false;
+    }
     let base = (letter % 256) as u8;
     let shape = (letter / 256 % 8) as u8;
+    if keys::is_small(base) {
+        return carries(shape, base);
+    }
     let digit = keys::is_digit(base);
-    ((letter < 2 * CAPITAL) & (keys::is_small(base) | ((mode == Word::VNI) & digit)))
-        & (carries(shape, base) & !(digit & (letter / CAPITAL % 2 == 1)))
+    ((mode == Word::VNI) & digit) & (carries(shape, base) & !(digit & (letter / CAPITAL % 2 == 1)))
 }
 
 // The capital is 32 less below 100 hex, else 1 less.
@@ -104,10 +114,20 @@ fn encode(point: u16) -> LetterBytes
     )
 }
 
+// A small letter with no mark on it: its own byte, and most letters of a text are such.
+fn is_bare(letter: u16, tone: u8) -> bool
+    ensures { λ r. ⌜ r ≡ (isSmall letter && eqb tone noTone) ⌝ }
+{
+    ((b'a' as u16 <= letter) & (letter <= b'z' as u16)) & (tone == NO_TONE)
+}
+
 // The bytes of a letter with a tone on it. A digit is its own byte.
 pub fn utf8(letter: u16, tone: u8) -> LetterBytes
     ensures { λ r. ⌜ r ≡ written letter tone ⌝ }
 {
+    if is_bare(letter, tone) {
+        return LetterBytes::One(letter as u8);
+    }
     if !is_letter(Word::VNI, letter) {
         return LetterBytes::NoLetter;
     }

@@ -73,8 +73,8 @@ module _ (s : List ℕ) (tone : ℕ) (r : Parts) (e : r ≡ partsOf (map letter 
   n-is : r .nucleus ≡ length (initial w) + length (nucleus w)
   n-is = ap (λ (x : Parts). x .nucleus) e
 
-  none-is : (eqb tone 0 || eqb (r .initial) (r .nucleus)) ≡ (eqb tone 0 || isNil (nucleus w))
-  none-is = ap (_||_ (eqb tone 0)) (nil-length (nucleus w) (r .initial) (r .nucleus) (omega (arith, i-is, n-is)))
+  none-is : eqb (r .initial) (r .nucleus) ≡ isNil (nucleus w)
+  none-is = nil-length (nucleus w) (r .initial) (r .nucleus) (omega (arith, i-is, n-is))
 
   -- nothing follows the nucleus
   ends-is : eqb (r .nucleus) (length s) ≡ (isNil (final w) && isNil (leftovers w))
@@ -85,10 +85,18 @@ module _ (s : List ℕ) (tone : ℕ) (r : Parts) (e : r ≡ partsOf (map letter 
   abbrev within : ℕ
   within = placeWithin (nucleus w) (isNil (final w) && isNil (leftovers w))
 
-  pub nowhere : (eqb tone 0 || eqb (r .initial) (r .nucleus)) ≡ true → Nowhere ≡ tonePlace w tone
-  unfolding tonePlace
-  nowhere t = ap (λ (b : Bool). placeUnless b (length (initial w) + within)) (sym t ∙ none-is)
+  module _ (some : (tone ≡ 0) → ⊥) where
+    unless-is : (b : Bool) → eqb (r .initial) (r .nucleus) ≡ b → b ≡ (eqb tone 0 || isNil (nucleus w))
+    unless-is b t = sym t ∙ none-is ∙ ap (λ (c : Bool). c || isNil (nucleus w)) (sym (ne-eqb tone 0 some))
 
-  pub somewhere : (k : ℕ) (ns : List ℕ) → map letter ns ≡ nucleus w → (eqb tone 0 || eqb (r .initial) (r .nucleus)) ≡ false → k ≡ placeWithin (map letter ns) (eqb (r .nucleus) (length s)) → At (r .initial + k) ≡ tonePlace w tone
-  unfolding tonePlace
-  somewhere k ns a t ek = λ j. placeUnless ((sym t ∙ none-is) j) (i-is j + (ek ∙ ap₂ placeWithin a ends-is) j)
+    pub no-nucleus : r .initial ≡ r .nucleus → Nowhere ≡ tonePlace w tone
+    unfolding tonePlace
+    no-nucleus t = ap (λ (b : Bool). placeUnless b (length (initial w) + within)) (unless-is true (eq-eqb (r .initial) (r .nucleus) t))
+
+    pub somewhere : (k : ℕ) (ns : List ℕ) → map letter ns ≡ nucleus w → (r .initial ≡ r .nucleus → ⊥) → k ≡ placeWithin (map letter ns) (eqb (r .nucleus) (length s)) → At (r .initial + k) ≡ tonePlace w tone
+    unfolding tonePlace
+    somewhere k ns a t ek = λ j. placeUnless (unless-is false (ne-eqb (r .initial) (r .nucleus) t) j) (i-is j + (ek ∙ ap₂ placeWithin a ends-is) j)
+
+pub no-tone : (w : Letters) (tone : ℕ) → tone ≡ 0 → Nowhere ≡ tonePlace w tone
+unfolding tonePlace
+no-tone w tone e = sym (ap (λ (t : ℕ). tonePlace w t) e)

@@ -139,10 +139,13 @@ fn place_within(nuc: &[u16], ends: bool) -> usize
 pub fn tone_place(s: &[u16], tone: u8) -> Place
     ensures { λ r. ⌜ r ≡ tonePlace (map letter (now (s .entry))) tone ⌝ }
 {
+    if tone == NO_TONE {
+        return Place::Nowhere;
+    }
     let parts = apart(s);
     let i = parts.initial;
     let n = parts.nucleus;
-    if (tone == NO_TONE) | (i == n) {
+    if i == n {
         return Place::Nowhere;
     }
     Place::At(i + place_within(&s[i..n], n == s.len()))

@@ -14,7 +14,7 @@ use Rattle.rules.specs.Refusals.{outOfRange, refusal}
 use Rattle.rules.specs.WhatComesBack.{show}
 use Rattle.rules.specs.declared.Word.{Word}
 use Rattle.rules.specs.declared.Place.{Place}
-use Rattle.rules.specs.declared.WriteAnswer.the-variants.{Refused}
+use Rattle.rules.specs.declared.WriteAnswer.the-variants.{Wrote, Refused}
 use Rattle.rules.proofs.Range.{few-letters}
 use Rattle.output.specs.Front.{put}
 use Rattle.show.specs.Filling.{textFrom, textOf, textOut}
@@ -40,6 +40,13 @@ module _ (ns : List ℕ) (t : ℕ) (out : List ℕ) where
         let made = textFrom p t 0 ns in
         let m : length made ≡ n - 0 = omega arith in
         ap (λ (l : List ℕ). put l out) (ap (take (n - 0)) b ∙ take-at made (drop (length made) old) (n - 0) m ∙ ap (λ (q : Place). textFrom q t 0 ns) at) ∙ sym (few-enough few)
+
+    -- with room for any text it is made where it is put
+    pub made-there : (after : List ℕ) → mostBytes ≤ length out → p ≡ tonePlace (map letter ns) t → after ≡ atFront (textFrom p t 0 ns) out → textOut ns t out ≡ record { answer = Wrote n; output = after }
+    unfolding put refusal
+    made-there after h at b =
+        let text = ap (λ (q : Place). textFrom q t 0 ns) (sym at) in
+        few-enough few ∙ ap (λ (l : List ℕ). put l out) text ∙ simp (le-ltb (length out) (length (textFrom p t 0 ns)) (omega (arith, h, many, at-most-96)), many, b)
 
 module _ (w : Word) (out : List ℕ) where
   pub refused : outOfRange w ≡ true → show w out ≡ record { answer = Refused (record { number = 8; value = 0 }); output = out }

@@ -76,6 +76,10 @@ pub fn text(letters: &[u16], tone: u8, out: &mut [u8]) -> WriteAnswer
         });
     }
     let place = parts::tone_place(letters, tone);
+    // With room for any text it is made where it is to stand; else it is made first, and its length then known.
+    if Word::TEXT <= out.len() {
+        return WriteAnswer::Wrote(fill(out, letters, place, tone));
+    }
     let mut made = [0; Word::TEXT];
     let needed = fill(&mut made, letters, place, tone);
     output::write(&made[0..needed], out)

@@ -3,7 +3,7 @@ use mathlib.Core.Path.{_≡_, refl}
 use mathlib.Core.Bool.{Bool, true, false, _&&_, _||_}
 use Prim.Native.Nat.{ℕ}
 use borrow.Author.Tests.{eqb-true, eqb-false}
-use lib.Dec.{T, eqb}
+use lib.Dec.{eqb}
 
 -- x where the test holds, else y
 abbrev pub pick : {A : Type 0} → A → Bool → A → A
@@ -11,10 +11,6 @@ pick x t y = elim t [ true ↦ x | false ↦ y ]
 
 abbrev pub ifSo : Bool → Bool → Bool
 ifSo t b = pick b t false
-
-pub T-true : (a : Bool) → T a → a ≡ true
-T-true true t = refl
-T-true false t = absurd t
 
 pub only : (a : Bool) → a ≡ ifSo a true
 only true = refl

@@ -3,20 +3,21 @@ use mathlib.Core.Path.{_≡_, sym, ap, _∙_}
 use mathlib.Core.Bool.{false}
 use mathlib.Core.List.{List}
 use Prim.Native.Nat.{ℕ}
-use Rattle.rules.specs.TheWord.{State, Typed, wordOf}
+use Rattle.rules.specs.TheWord.{State, wordOf}
 use Rattle.rules.specs.TakingApart.{verdict}
 use Rattle.rules.specs.TonePlace.{tonePlace}
 use Rattle.rules.specs.CodePoints.{shown}
 use Rattle.rules.specs.Decision.{decision}
 use Rattle.rules.specs.Refusals.{outOfRange, refusal}
-use Rattle.rules.specs.WhatComesBack.{Written, writeOr, show, placeAnswer, verdictAnswer, decisionAnswer}
+use Rattle.rules.specs.WhatComesBack.{show, placeAnswer, verdictAnswer, decisionAnswer}
 use Rattle.rules.specs.declared.Word.{Word}
 use Rattle.rules.specs.declared.PlaceAnswer.the-variants.{Found}
 use Rattle.rules.specs.declared.VerdictAnswer.the-variants.{Judged}
 use Rattle.rules.specs.declared.DecisionAnswer.the-variants.{Decided}
+use Rattle.rules.proofs.Answering.{finds, judges, decides}
 use Rattle.output.specs.Front.{put}
 
--- a record in range: what each entry answers
+-- a record in range shows its state
 module _ (w : Word) (range : outOfRange w ≡ false) where
   shows : (out : List ℕ) → show w out ≡ put (shown (wordOf w .state)) out
   unfolding show put refusal
@@ -25,24 +26,12 @@ module _ (w : Word) (range : outOfRange w ≡ false) where
   pub shows-state : (s : State) → wordOf w .state ≡ s → (out : List ℕ) → show w out ≡ put (shown s) out
   shows-state s e out = shows out ∙ ap (λ (z : State). put (shown z) out) e
 
-  stands : placeAnswer w ≡ Found (tonePlace (wordOf w .state .letters) (wordOf w .state .tone))
-  unfolding placeAnswer refusal
-  stands = rw range
-
-  pub judges : verdictAnswer w ≡ Judged (verdict (wordOf w .state .letters) (wordOf w .state .tone))
-  unfolding verdictAnswer refusal
-  judges = rw range
-
-  pub decides : decisionAnswer w ≡ Decided (decision (wordOf w))
-  unfolding decisionAnswer refusal
-  decides = rw range
-
 module _ (v w : Word) (rv : outOfRange v ≡ false) (rw : outOfRange w ≡ false) (same : wordOf v .state ≡ wordOf w .state) where
   pub same-text : (out : List ℕ) → show v out ≡ show w out
   same-text out = shows v rv out ∙ ap (λ (s : State). put (shown s) out) same ∙ sym (shows w rw out)
 
   pub same-place : placeAnswer v ≡ placeAnswer w
-  same-place = stands v rv ∙ ap (λ (s : State). Found (tonePlace (s .letters) (s .tone))) same ∙ sym (stands w rw)
+  same-place = finds v rv ∙ ap (λ (s : State). Found (tonePlace (s .letters) (s .tone))) same ∙ sym (finds w rw)
 
   pub same-verdict : verdictAnswer v ≡ verdictAnswer w
   same-verdict = judges v rv ∙ ap (λ (s : State). Judged (verdict (s .letters) (s .tone))) same ∙ sym (judges w rw)

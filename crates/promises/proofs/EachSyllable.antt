@@ -1,40 +1,37 @@
 -- Demand 3, second half: `SecondHalf` of specs/EachSyllable.antt, by the law on each valid syllable and the contracts.
-use mathlib.Core.Path.{_≡_, refl, sym, ap, _∙_}
-use mathlib.Core.Bool.{Bool, true, false, not}
+use mathlib.Core.Path.{_≡_, ap, _∙_}
+use mathlib.Core.Bool.{false}
 use mathlib.Core.List.{List, _++_}
-use Prim.Native.Nat.{ℕ, _≤_}
-use native.Mathlib.Omega.{arith}
+use Prim.Native.Nat.{ℕ}
 use lib.Dec.{T}
-use lib.ListN.{length}
 use Rattle.rules.specs.Letters.{Letters}
 use Rattle.rules.specs.TheWord.{Typed, wordOf}
 use Rattle.rules.specs.TakingApart.{verdict}
 use Rattle.rules.specs.Decision.{decision}
 use Rattle.rules.specs.Refusals.{isMode, outOfRange}
 use Rattle.rules.specs.WhatComesBack.{typed, Written}
-use Rattle.rules.specs.declared.Word.{Word}
 use Rattle.rules.specs.declared.TypeAll.{TypeAll}
 use Rattle.rules.specs.declared.VerdictAnswer.the-variants.{Judged}
 use Rattle.rules.specs.declared.DecisionAnswer.the-variants.{Decided}
 use Rattle.rules.specs.declared.Decision.{Decision}
-use Rattle.forms.specs.Syllables.{Syllable, openWord, bareKeys, Gives}
+use Rattle.rules.proofs.Answering.{judges, decides, typed-in-range, typed-word}
+use Rattle.forms.specs.Syllables.{openWord, bareKeys, Gives}
 use Rattle.forms.proofs.AnyOrder.{any-order}
-use Rattle.promises.specs.Contracts.{TypeAllows, typed-as, shown-answer, shown-output, judged, decided}
-use Rattle.promises.specs.EachKey.{Accepted}
+use Rattle.promises.specs.Contracts.{TypeAllows}
 use Rattle.promises.specs.EachSyllable.{IsSyllable, SecondHalf}
-use Rattle.promises.proofs.Alike.{shows-state, judges, decides}
-use Rattle.promises.proofs.EachKey.{typed-in-range, typed-word}
+use Rattle.promises.proofs.AsDefined.{typed-as, shown-answer, shown-output, judged, decided}
+use Rattle.promises.proofs.Alike.{shows-state}
 
 -- keys that give a syllable: whatever typing them may answer is that syllable
 pub typed-gives : (m : ℕ) (ks : List ℕ) (w : Letters) (t : ℕ) → T (isMode m) → Gives m ks w t → (r : TypeAll) → TypeAllows m ks r → IsSyllable r w t
 typed-gives m ks w t mode g r a =
-    let e = typed-as a ∙ g .answered in
-    let ok : Accepted m ks = record { mode = mode; few = omega (arith, g .short); keys = g .allowed } in
+    let e = typed-as a in
+    let ok = ap (λ (x : TypeAll). x .answer) (g .answered) in
     let word-is : wordOf (r .word) ≡ typed m ks = ap (λ (x : TypeAll). wordOf (x .word)) e ∙ typed-word m ks ok in
     let range : outOfRange (r .word) ≡ false = ap (λ (x : TypeAll). outOfRange (x .word)) e ∙ typed-in-range m ks ok in
     let state-is : wordOf (r .word) .state ≡ openWord w t = ap (λ (z : Typed). z .state) word-is ∙ g .state in
     record {
-      answer = ap (λ (x : TypeAll). x .answer) e;
+      answer = ap (λ (x : TypeAll). x .answer) e ∙ ok;
       state = state-is;
       text = λ p. (
         shown-answer p ∙ ap (λ (x : Written). x .answer) (shows-state (r .word) range (openWord w t) state-is _),

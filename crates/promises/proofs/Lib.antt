@@ -1,3 +1,4 @@
+pub mod AsDefined
 pub mod Alike
 pub mod TwoOrders
 pub mod EachKey

@@ -19,8 +19,9 @@ use Rattle.forms.specs.Syllables.{Syllable, openWord}
 use Rattle.forms.specs.Spelling.{ShownBySyllable}
 use Rattle.forms.proofs.StandardList.{standard-list, one-list}
 use Rattle.forms.proofs.Accepted.{shown-spelled, spelled-shown}
-use Rattle.promises.specs.Contracts.{SpellAllows, spelled-answer, spelled-output}
+use Rattle.promises.specs.Contracts.{SpellAllows}
 use Rattle.promises.specs.RoundTrip.{Spelled, SpelledBack, OneList, OnlySyllables}
+use Rattle.promises.proofs.AsDefined.{spelled-answer, spelled-output}
 use Rattle.promises.proofs.EachSyllable.{typed-gives}
 
 pub spelled-back : SpelledBack

@@ -18,8 +18,8 @@ use Rattle.rules.proofs.Commute.{Differ}
 use Rattle.rules.proofs.StaysInRange.{Whole, step-in-range}
 use Rattle.rules.proofs.Records.{withArrays}
 use Rattle.rules.proofs.RecordOrders.{record-orders}
-use Rattle.promises.specs.Contracts.{stepped, shown-answer, shown-output, placed, judged, decided}
 use Rattle.promises.specs.TwoOrders.{differ, OpenWithRoom, BothOrders, FirstHalf}
+use Rattle.promises.proofs.AsDefined.{stepped, shown-answer, shown-output, placed, judged, decided}
 use Rattle.promises.proofs.Alike.{same-text, same-place, same-verdict, same-decision}
 
 families : (r q : Role) → T (differ r q) → Differ r q

@@ -1,12 +1,11 @@
--- What the contract of each entry allows: of these arguments this result, and of a lent output these bytes before and after. Each is then what the definition says.
-use mathlib.Core.Path.{_≡_, sym, _∙_}
+-- What the contract of each entry allows: of these arguments this result, and of a lent output these bytes before and after.
+use mathlib.Core.Path.{_≡_}
 use mathlib.Core.List.{List}
 use Prim.Native.Nat.{ℕ}
 use contract.Lifetimes.{Lfts}
 use denote.Ref.{now}
 use denote.Triple.Entry.{Args, Res}
 use denote.Triple.Clauses.{AtExit}
-use Rattle.rules.specs.WhatComesBack.{start as startOf, step as stepOf, typeAll, show as showOf, verdictAnswer, placeAnswer, decisionAnswer, commit as commitOf, commitAnswer, spell as spellOf}
 use Rattle.rules.specs.declared.Word.{Word}
 use Rattle.rules.specs.declared.Start.{Start}
 use Rattle.rules.specs.declared.Step.{Step}
@@ -43,17 +42,11 @@ pub record StartAllows (m : ℕ) (r : Start) : Type 0 where
   pub exit : AtExit start.ended lifetimes
   pub post : start-reads.Post lifetimes (m, tt) r exit
 
-pub started : {m : ℕ} {r : Start} → StartAllows m r → r ≡ startOf m
-started a = a .post
-
 -- step: a word and a key
 pub record StepAllows (w : Word) (k : ℕ) (r : Step) : Type 0 where
   pub lifetimes : Lfts 0
   pub exit : AtExit step.ended lifetimes
   pub post : step-reads.Post lifetimes (w, (k, tt)) r exit
-
-pub stepped : {w : Word} {k : ℕ} {r : Step} → StepAllows w k r → r ≡ stepOf w k
-stepped a = a .post
 
 -- typing a whole list: a mode and keys
 pub record TypeAllows (m : ℕ) (ks : List ℕ) (r : TypeAll) : Type 0 where
@@ -63,9 +56,6 @@ pub record TypeAllows (m : ℕ) (ks : List ℕ) (r : TypeAll) : Type 0 where
   pub mode : args .0 ≡ m
   pub keys : now (args .1 .0) ≡ ks
   pub post : type-all-reads.Post lifetimes args r exit
-
-pub typed-as : {m : ℕ} {ks : List ℕ} {r : TypeAll} → TypeAllows m ks r → r ≡ typeAll m ks
-typed-as a = a .post ∙ (λ i. typeAll (a .mode i) (a .keys i))
 
 -- show: a word, and the output before and after
 pub record ShowAllows (w : Word) (before : List ℕ) (r : WriteAnswer) (after : List ℕ) : Type 0 where
@@ -77,37 +67,21 @@ pub record ShowAllows (w : Word) (before : List ℕ) (r : WriteAnswer) (after : 
   pub at-exit : now (exit .1 .0) ≡ after
   pub post : show-reads.Post lifetimes args r exit
 
-module _ {w : Word} {before : List ℕ} {r : WriteAnswer} {after : List ℕ} (a : ShowAllows w before r after) where
-  pub shown-answer : r ≡ showOf w before .answer
-  shown-answer = a .post .0 ∙ (λ i. showOf (a .of-word i) (a .at-entry i) .answer)
-
-  pub shown-output : after ≡ showOf w before .output
-  shown-output = sym (a .at-exit) ∙ a .post .1 ∙ (λ i. showOf (a .of-word i) (a .at-entry i) .output)
-
 -- the tone's place, the verdict and the decision: a word
 pub record PlaceAllows (w : Word) (r : PlaceAnswer) : Type 0 where
   pub lifetimes : Lfts 0
   pub exit : AtExit place.ended lifetimes
   pub post : place-reads.Post lifetimes (w, tt) r exit
 
-pub placed : {w : Word} {r : PlaceAnswer} → PlaceAllows w r → r ≡ placeAnswer w
-placed a = a .post
-
 pub record VerdictAllows (w : Word) (r : VerdictAnswer) : Type 0 where
   pub lifetimes : Lfts 0
   pub exit : AtExit verdict.ended lifetimes
   pub post : verdict-reads.Post lifetimes (w, tt) r exit
 
-pub judged : {w : Word} {r : VerdictAnswer} → VerdictAllows w r → r ≡ verdictAnswer w
-judged a = a .post
-
 pub record DecisionAllows (w : Word) (r : DecisionAnswer) : Type 0 where
   pub lifetimes : Lfts 0
   pub exit : AtExit decision.ended lifetimes
   pub post : decision-reads.Post lifetimes (w, tt) r exit
-
-pub decided : {w : Word} {r : DecisionAnswer} → DecisionAllows w r → r ≡ decisionAnswer w
-decided a = a .post
 
 -- commit, and the question on the same input: a mode, keys and a text; of the part handed back its bytes
 pub record CommitAllows (m : ℕ) (ks text part : List ℕ) : Type 0 where
@@ -121,9 +95,6 @@ pub record CommitAllows (m : ℕ) (ks text part : List ℕ) : Type 0 where
   pub part-is : now result ≡ part
   pub post : commit-reads.Post lifetimes args result exit
 
-pub handed-back : {m : ℕ} {ks text part : List ℕ} → CommitAllows m ks text part → part ≡ commitOf m ks text
-handed-back a = sym (a .part-is) ∙ a .post ∙ (λ i. commitOf (a .mode i) (a .keys i) (a .of-text i))
-
 pub record QuestionAllows (m : ℕ) (ks text : List ℕ) (r : CommitAnswer) : Type 0 where
   pub lifetimes : Lfts 2
   pub args : Args answer.signature lifetimes
@@ -132,9 +103,6 @@ pub record QuestionAllows (m : ℕ) (ks text : List ℕ) (r : CommitAnswer) : Ty
   pub keys : now (args .1 .0) ≡ ks
   pub of-text : now (args .1 .1 .0) ≡ text
   pub post : answer-reads.Post lifetimes args r exit
-
-pub answered : {m : ℕ} {ks text : List ℕ} {r : CommitAnswer} → QuestionAllows m ks text r → r ≡ commitAnswer m ks text
-answered a = a .post ∙ (λ i. commitAnswer (a .mode i) (a .keys i) (a .of-text i))
 
 -- speller: a mode, a text, and the output before and after
 pub record SpellAllows (m : ℕ) (text : List ℕ) (before : List ℕ) (r : WriteAnswer) (after : List ℕ) : Type 0 where
@@ -146,10 +114,3 @@ pub record SpellAllows (m : ℕ) (text : List ℕ) (before : List ℕ) (r : Writ
   pub at-entry : now (args .1 .1 .0) ≡ before
   pub at-exit : now (exit .1 .1 .0) ≡ after
   pub post : spell-reads.Post lifetimes args r exit
-
-module _ {m : ℕ} {text before : List ℕ} {r : WriteAnswer} {after : List ℕ} (a : SpellAllows m text before r after) where
-  pub spelled-answer : r ≡ spellOf m text before .answer
-  spelled-answer = a .post .0 ∙ (λ i. spellOf (a .mode i) (a .of-text i) (a .at-entry i) .answer)
-
-  pub spelled-output : after ≡ spellOf m text before .output
-  spelled-output = sym (a .at-exit) ∙ a .post .1 ∙ (λ i. spellOf (a .mode i) (a .of-text i) (a .at-entry i) .output)

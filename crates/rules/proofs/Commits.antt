@@ -15,6 +15,7 @@ use Rattle.rules.specs.Decision.{startsWithĐ, keeps, keepIf, handedBack
 use Rattle.rules.specs.CodePoints.{shown}
 use Rattle.rules.specs.Refusals.{all, isMode, sameBytes, table, refusal}
 use Rattle.rules.specs.WhatComesBack.{typed, commitCall, commitOr, commit, grantedOr, commitAnswer}
+use Rattle.rules.specs.HalfMarked.{NotHalfMarked, valid, closed, with-đ, untouched, HandedBack, the-keys, the-text}
 use Rattle.rules.specs.declared.Refusal.{Refusal}
 use Rattle.rules.specs.declared.CommitAnswer.the-variants.{Granted}
 use Rattle.rules.proofs.Tests.{either}
@@ -22,18 +23,6 @@ use Rattle.rules.proofs.Range.{not-not, twice, not-over, in-range}
 use Rattle.rules.proofs.Refused.{NoneHolds, no-rows, not-this, refusal-none}
 use Rattle.rules.proofs.Typing.{new-held, list-held}
 use Rattle.rules.proofs.TextFits.{few-bytes}
-
--- Why a shown text is kept: its word is valid, closed, starts with đ, or had no act or undo.
-pub data NotHalfMarked (z : Typed) : Type 0 where
-  valid : verdict (z .state .letters) (z .state .tone) ≡ 0 → NotHalfMarked z
-  closed : T (z .state .closed) → NotHalfMarked z
-  with-đ : T (startsWithĐ (z .state .letters)) → NotHalfMarked z
-  untouched : z .acted ≡ 0 → z .undone ≡ 0 → NotHalfMarked z
-
--- What commit hands back where it is not refused: these keys, or the text that they show.
-pub data HandedBack (m : ℕ) (ks : List ℕ) (part : List ℕ) : Type 0 where
-  the-keys : part ≡ ks → HandedBack m ks part
-  the-text : part ≡ shown (typed m ks .state) → NotHalfMarked (typed m ks) → HandedBack m ks part
 
 -- the same bytes
 same-self : (bs : List ℕ) → T (sameBytes bs bs)

@@ -99,3 +99,12 @@ tone-on-a-vowel w t n = go (eqb t noTone) (isNil (nucleus w)) refl
         subst (λ (i : ℕ). T (vowelAt i w)) m
         (subst (λ (l : Letters). T (vowelAt (length (initial w) + k) l)) (whole w)
         (after (initial w) k (nucleus w ++ (final w ++ leftovers w)) (at-vowel k (final w ++ leftovers w) (nucleus-vowels w) h)))
+
+-- so its place is one of the word's letters
+vowel-within : (n : ℕ) (w : Letters) → T (vowelAt n w) → n < length w
+vowel-within n [] t = absurd t
+vowel-within zero (x ∷ xs) t = omega arith
+vowel-within (suc n) (x ∷ xs) t = omega (arith, vowel-within n xs t)
+
+pub place-in-word : (w : Letters) (t n : ℕ) → tonePlace w t ≡ At n → n < length w
+place-in-word w t n e = vowel-within n w (tone-on-a-vowel w t n e)

@@ -12,3 +12,4 @@ pub mod Speller
 pub mod Drill
 pub mod Cards
 pub mod Apprentices
+pub mod HalfMarked

@@ -11,7 +11,8 @@ use borrow.Author.Tests.{ne-eqb, eqb-true}
 use Rattle.rules.specs.Letters.{Letter, Letters, plain}
 use Rattle.rules.specs.TakingApart.{agreesAt, agrees}
 use Rattle.syllable.specs.Numbers.{digit, num, more, code, small, Codes, short, Numbers, plainOf, agreeDigit}
-use Rattle.parts.proofs.Bools.{ifSo, T-true, only, never, and-false, and-if, eqb-case}
+use Rattle.rules.proofs.Tests.{is-true}
+use Rattle.parts.proofs.Bools.{ifSo, only, never, and-false, and-if, eqb-case}
 use Rattle.syllable.proofs.Codes.{T-lt, Small, small-head, small-tail, digit-base, is-digit}
 
 -- one letter: it is the nucleus's letter, or that letter without its shape
@@ -96,7 +97,7 @@ module _ {p q : ℕ} {v z : Letters} (c : Codes p v) (n : Numbers q z) where
 
 -- digits that agree have the same base, and numbers that agree the same bases
 base-digit : (x z : ℕ) → T (agreeDigit x z) → x % 512 ≡ z % 512
-base-digit x z t = eqb-case (λ b. T (b || eqb x (z % 512)) → x % 512 ≡ z % 512) x z (λ e _. ap (λ (n : ℕ). n % 512) e) (λ _ t. ap (λ (n : ℕ). n % 512) (eqb-true x (z % 512) (T-true _ t)) ∙ omega arith) t
+base-digit x z t = eqb-case (λ b. T (b || eqb x (z % 512)) → x % 512 ≡ z % 512) x z (λ e _. ap (λ (n : ℕ). n % 512) e) (λ _ t. ap (λ (n : ℕ). n % 512) (eqb-true x (z % 512) (is-true _ t)) ∙ omega arith) t
 
 pub bases : (p q : ℕ) → T (agreeNumbers p q) → plainOf p ≡ plainOf q
 bases p q t =

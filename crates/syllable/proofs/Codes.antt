@@ -12,10 +12,11 @@ use Rattle.rules.specs.Letters.{Letter, Letters, elem, word, is, same, oneOf, i
 use Rattle.rules.specs.TakingApart.{twoOrMore}
 use Rattle.rules.specs.TheWord.{letter}
 use Rattle.syllable.specs.Numbers.{digit, digitAt, num, nums, more, code, small, Codes, short, Numbers}
-use Rattle.parts.proofs.Bools.{pick, ifSo, T-true, only, or-if, eqb-case}
+use Rattle.rules.proofs.Tests.{is-true}
+use Rattle.parts.proofs.Bools.{pick, ifSo, only, or-if, eqb-case}
 
 pub T-lt : (a b : ℕ) → T (ltb a b) → a < b
-T-lt a b t = ltb-true a b (T-true (ltb a b) t)
+T-lt a b t = ltb-true a b (is-true (ltb a b) t)
 
 -- a small letter, and small letters
 pub record Small (x : Letter) : Type 0 where

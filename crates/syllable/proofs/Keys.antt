@@ -8,7 +8,8 @@ use lib.Dec.{T, ltb}
 use lib.Ieee.Fits.{and-l, and-r}
 use Rattle.rules.specs.Letters.{Letters, elem, oneOf}
 use Rattle.syllable.specs.Numbers.{nums, Codes}
-use Rattle.parts.proofs.Bools.{T-true, eqb-case}
+use Rattle.rules.proofs.Tests.{is-true}
+use Rattle.parts.proofs.Bools.{eqb-case}
 use Rattle.syllable.proofs.Codes.{shorts, one-is}
 
 -- a number is one of the keys of an arm
@@ -78,7 +79,7 @@ abbrev pub isIn : List ℕ → ℕ → Bool
 isIn ls k = elem k ls
 
 pub is-elem : (p : ℕ) (ls ks : List ℕ) → T (every (isIn ls) ks) → Key p ks → true ≡ elem p ls
-is-elem p ls ks t h = sym (T-true (elem p ls) (holds (isIn ls) p ks t h))
+is-elem p ls ks t h = sym (is-true (elem p ls) (holds (isIn ls) p ks t h))
 
 pub no-elem : (p : ℕ) (ls : List ℕ) (kss : List (List ℕ)) → T (every (inArm kss) ls) → NoKey p kss → false ≡ elem p ls
 no-elem p ls kss t n = go (elem p ls) refl

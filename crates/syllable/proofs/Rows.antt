@@ -11,7 +11,8 @@ use Rattle.rules.specs.Letters.{Letters, elem, oneOf, isNil}
 use Rattle.rules.specs.TakingApart.{Row, rows}
 use Rattle.syllable.specs.Numbers.{nums, Codes}
 use Rattle.syllable.specs.Nuclei.{noRow, rowIn, rowOf, inRow}
-use Rattle.parts.proofs.Bools.{pick, T-true, and-false}
+use Rattle.rules.proofs.Tests.{is-true}
+use Rattle.parts.proofs.Bools.{pick, and-false}
 use Rattle.syllable.proofs.Codes.{shorts, one-is}
 use Rattle.syllable.proofs.Keys.{Key, keys, every, holds, Rest, NoKey, rest, inArm, isIn, no-elem, is-one, no-one}
 
@@ -90,7 +91,7 @@ endings-are f r = go (r .bare) f
 module _ {p q : ℕ} {v f : Letters} (n : Codes p v) (e : Codes q f) where
   module _ (i : ℕ) (ks : List ℕ) (t : T (every (standsIn i) ks)) (h : Key p ks) (s : T (shorts (endings (row i)))) where
     in-row : oneOf f (endings (row i)) ≡ inRow (rowOf v) f
-    in-row = endings-are f (row i) ∙ ap (λ (r : Row). inRow r f) (sym (row-is n i (eqb-true (rowNumber p rows) i (T-true _ (holds (standsIn i) p ks t h)))))
+    in-row = endings-are f (row i) ∙ ap (λ (r : Row). inRow r f) (sym (row-is n i (eqb-true (rowNumber p rows) i (is-true _ (holds (standsIn i) p ks t h)))))
 
     pub takes-it : T (every (isIn (nums (endings (row i)))) (keys (endings (row i)))) → Key q (keys (endings (row i))) → true ≡ inRow (rowOf v) f
     takes-it u k = is-one e (endings (row i)) s (keys (endings (row i))) u k ∙ in-row

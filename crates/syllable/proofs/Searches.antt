@@ -12,7 +12,8 @@ use Rattle.rules.specs.Letters.{Letters, elem, word, same, some, oneOf, isNil}
 use Rattle.rules.specs.TakingApart.{Row, rows, someRow, isThis, couldBe, listed, someAgrees, stands, takes, agrees}
 use Rattle.syllable.specs.Numbers.{num, nums, code, Codes, short, Numbers, plainOf}
 use Rattle.syllable.specs.Nuclei.{nucleiOf, noRow, rowIn, rowOf, withBasesIn, withBases}
-use Rattle.parts.proofs.Bools.{pick, ifSo, T-true, only, and-false, or-if, eqb-case}
+use Rattle.rules.proofs.Tests.{is-true}
+use Rattle.parts.proofs.Bools.{pick, ifSo, only, and-false, or-if, eqb-case}
 use Rattle.syllable.proofs.Codes.{shorts, same-is, one-is, codes}
 use Rattle.syllable.proofs.Rows.{rowNumber, row, row-is}
 use Rattle.syllable.proofs.Agreements.{agree-is, bases}
@@ -51,7 +52,7 @@ module _ (f : Row → Letters → Bool) where
   of-row i r e (z ∷ zs) t =
       let h = and-l (short z && eqb (rowNumber (num z) rows) i) (foundIn i zs) t in
       let n : Numbers (num z) z = record { is = refl; short = and-l (short z) (eqb (rowNumber (num z) rows) i) h } in
-      let p : rowNumber (num z) rows ≡ i = eqb-true _ _ (T-true _ (and-r (short z) (eqb (rowNumber (num z) rows) i) h)) in
+      let p : rowNumber (num z) rows ≡ i = eqb-true _ _ (is-true _ (and-r (short z) (eqb (rowNumber (num z) rows) i) h)) in
       (λ j. pick true (f (sym (row-is (codes n) i p ∙ e) j) z) (of-row i r e zs (and-r (short z && eqb (rowNumber (num z) rows) i) (foundIn i zs) t) j))
 
   of-rows : (i : ℕ) (rs : List Row) → Placed i rs → T (allFound i rs) → someRow f rs ≡ some (inItsRow f) (nucleiOf rs)

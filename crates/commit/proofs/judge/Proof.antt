@@ -8,7 +8,8 @@ use borrow.Author.Needs.{needs}
 use borrow.Author.Tests.{not-true, not-false}
 use Rattle.rules.specs.Refusals.{sameBytes}
 use Rattle.rules.proofs.TextFits.{text-fits}
-use Rattle.commit.proofs.Answers.{writes, so-long, its-front, decides-so, is-decided, other-text, kept, restored}
+use Rattle.rules.proofs.Answering.{is-written, so-long, its-front, its-decision, is-decided}
+use Rattle.commit.proofs.Answers.{other-text, kept, restored}
 use Rattle.commit.proofs.judge.Statement.{statement}
 use Rattle.commit.proofs.judge.Tie as tie
 
@@ -24,7 +25,7 @@ judge-spec =
     (λ c.
     let shown = c .before .before .before .before in
     let at = shown .before .before .before in
-    absurd (writes (at .args .w) (at .pre) _ (search needs) (shown .show .result) (shown .show .ensures .0) _ (c .before .enum-told .given .1)))
+    absurd (is-written (at .args .w) (at .pre) _ (search needs) (shown .show .result) (shown .show .ensures .0) _ (c .before .enum-told .given .1)))
     (λ c. search needs)
     (λ c. search needs)
     (λ c.
@@ -43,7 +44,7 @@ judge-spec =
     let at = shown .before .before .before in
     let text = at .args .text .now in
     let e = ap (sameBytes text) (sym (its-front (at .args .w) (at .pre) _ (search needs) (shown .show .result) (shown .show .ensures .0) (wrote .n .given .0 .0) (wrote .n .given .1) (shown .show .last .1 .0) (shown .show .ensures .1))) ∙ sym (compared .same .ensures) in
-    c .refused2 .ensures ∙ other-text (at .args .w) (at .pre) text (e ∙ not-true _ (c .before .if1 .taken)))
+    c .refused2 .ensures ∙ other-text (at .args .w) text (e ∙ not-true _ (c .before .if1 .taken)))
     (λ c κs. search needs)
     (λ c. search needs)
     (λ c. search needs)
@@ -54,7 +55,7 @@ judge-spec =
     let wrote = compared .before .before .before .before in
     let shown = wrote .before .before .before in
     let at = shown .before .before .before in
-    absurd (is-decided (at .args .w) (at .pre) (decided .decision .result) _ (decided .decision .ensures) (c .before .enum-told2 .given .1)))
+    absurd (is-decided (at .args .w) (at .pre) (decided .decision .result) (decided .decision .ensures) _ (c .before .enum-told2 .given .1)))
     (λ c. search needs)
     (λ c.
     let known = c .before .before .before in
@@ -66,8 +67,8 @@ judge-spec =
     let text = at .args .text .now in
     let e = ap (sameBytes text) (sym (its-front (at .args .w) (at .pre) _ (search needs) (shown .show .result) (shown .show .ensures .0) (wrote .n .given .0 .0) (wrote .n .given .1) (shown .show .last .1 .0) (shown .show .ensures .1))) ∙ sym (compared .same .ensures) in
     let n = so-long (at .args .w) (at .pre) _ (search needs) (shown .show .result) (shown .show .ensures .0) (wrote .n .given .0 .0) (wrote .n .given .1) in
-    let d = decides-so (at .args .w) (at .pre) (decided .decision .result) _ (decided .decision .ensures) (known .decision2 .given .1) ∙ c .enum-told3 .given .1 in
-    kept (at .args .w) (at .pre) text (wrote .n .given .0 .0) (e ∙ not-false _ (decided .before .if1 .left)) n d)
+    let d = sym (its-decision (at .args .w) (at .pre) (decided .decision .result) (decided .decision .ensures) _ (known .decision2 .given .1)) ∙ c .enum-told3 .given .1 in
+    kept (at .args .w) text (wrote .n .given .0 .0) (e ∙ not-false _ (decided .before .if1 .left)) n d)
     (λ c. search needs)
     (λ c.
     let known = c .before .before .before in
@@ -78,5 +79,5 @@ judge-spec =
     let at = shown .before .before .before in
     let text = at .args .text .now in
     let e = ap (sameBytes text) (sym (its-front (at .args .w) (at .pre) _ (search needs) (shown .show .result) (shown .show .ensures .0) (wrote .n .given .0 .0) (wrote .n .given .1) (shown .show .last .1 .0) (shown .show .ensures .1))) ∙ sym (compared .same .ensures) in
-    let d = decides-so (at .args .w) (at .pre) (decided .decision .result) _ (decided .decision .ensures) (known .decision2 .given .1) ∙ c .enum-told4 .given .1 in
-    restored (at .args .w) (at .pre) text (e ∙ not-false _ (decided .before .if1 .left)) d))
+    let d = sym (its-decision (at .args .w) (at .pre) (decided .decision .result) (decided .decision .ensures) _ (known .decision2 .given .1)) ∙ c .enum-told4 .given .1 in
+    restored (at .args .w) text (e ∙ not-false _ (decided .before .if1 .left)) d))

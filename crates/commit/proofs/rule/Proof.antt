@@ -4,8 +4,9 @@ use borrow.Author.Needs.{needs}
 use Rattle.rules.specs.TheWord.{wordOf}
 use Rattle.rules.specs.Refusals.{outOfRange}
 use Rattle.rules.specs.declared.TypeAll.{TypeAll}
+use Rattle.rules.proofs.Answering.{typed-in-range}
 use Rattle.commit.specs.Rulings.{judged}
-use Rattle.commit.proofs.Answers.{no-mode, too-many, too-long, not-typed, keys-typed, in-order, ruled}
+use Rattle.commit.proofs.Answers.{no-mode, too-many, too-long, not-typed, ruled}
 use Rattle.commit.proofs.rule.Statement.{statement}
 use Rattle.commit.proofs.rule.Tie as tie
 
@@ -39,13 +40,9 @@ rule-spec =
     (λ c. search needs)
     (λ c κs.
     let typed-all = c .before .before in
-    let short = typed-all .before in
-    let few = short .before in
-    let no = few .before in
-    let args = no .before .before .before .args in
+    let args = typed-all .before .before .before .before .before .before .args in
     let e = typed-all .type-all .ensures in
-    let keys = keys-typed (args .mode) (args .keys .now) (args .text .now) (no .if1 .left) (few .if2 .left) (short .if3 .left) (sym (ap (λ (t : TypeAll). t .answer) e) ∙ c .enum-told .given .1) in
-    ap (λ (t : TypeAll). outOfRange (t .word)) e ∙ in-order (args .mode) (args .keys .now) (args .text .now) (no .if1 .left) (few .if2 .left) (short .if3 .left) keys)
+    ap (λ (t : TypeAll). outOfRange (t .word)) e ∙ typed-in-range (args .mode) (args .keys .now) (sym (ap (λ (t : TypeAll). t .answer) e) ∙ c .enum-told .given .1))
     (λ c.
     let typed-all = c .before .before .before in
     let short = typed-all .before in
@@ -53,6 +50,5 @@ rule-spec =
     let no = few .before in
     let args = no .before .before .before .args in
     let e = typed-all .type-all .ensures in
-    let keys = keys-typed (args .mode) (args .keys .now) (args .text .now) (no .if1 .left) (few .if2 .left) (short .if3 .left) (sym (ap (λ (t : TypeAll). t .answer) e) ∙ c .before .enum-told .given .1) in
     c .judge .ensures ∙ ap (λ (t : TypeAll). judged (wordOf (t .word)) (args .text .now)) e ∙
-    ruled (args .mode) (args .keys .now) (args .text .now) (no .if1 .left) (few .if2 .left) (short .if3 .left) keys))
+    ruled (args .mode) (args .keys .now) (args .text .now) (no .if1 .left) (few .if2 .left) (short .if3 .left) (sym (ap (λ (t : TypeAll). t .answer) e) ∙ c .before .enum-told .given .1)))

@@ -1,0 +1,53 @@
+-- Whatever the contract of an entry allows is what the definition says.
+use mathlib.Core.Path.{_≡_, sym, _∙_}
+use mathlib.Core.List.{List}
+use Prim.Native.Nat.{ℕ}
+use Rattle.rules.specs.WhatComesBack.{start as startOf, step as stepOf, typeAll, show as showOf, verdictAnswer, placeAnswer, decisionAnswer, commit as commitOf, commitAnswer, spell as spellOf}
+use Rattle.rules.specs.declared.Word.{Word}
+use Rattle.rules.specs.declared.Start.{Start}
+use Rattle.rules.specs.declared.Step.{Step}
+use Rattle.rules.specs.declared.TypeAll.{TypeAll}
+use Rattle.rules.specs.declared.WriteAnswer.{WriteAnswer}
+use Rattle.rules.specs.declared.PlaceAnswer.{PlaceAnswer}
+use Rattle.rules.specs.declared.VerdictAnswer.{VerdictAnswer}
+use Rattle.rules.specs.declared.DecisionAnswer.{DecisionAnswer}
+use Rattle.rules.specs.declared.CommitAnswer.{CommitAnswer}
+use Rattle.promises.specs.Contracts.{StartAllows, StepAllows, TypeAllows, ShowAllows, PlaceAllows, VerdictAllows, DecisionAllows, CommitAllows, QuestionAllows, SpellAllows}
+
+pub started : {m : ℕ} {r : Start} → StartAllows m r → r ≡ startOf m
+started a = a .post
+
+pub stepped : {w : Word} {k : ℕ} {r : Step} → StepAllows w k r → r ≡ stepOf w k
+stepped a = a .post
+
+pub typed-as : {m : ℕ} {ks : List ℕ} {r : TypeAll} → TypeAllows m ks r → r ≡ typeAll m ks
+typed-as a = a .post ∙ (λ i. typeAll (a .mode i) (a .keys i))
+
+module _ {w : Word} {before : List ℕ} {r : WriteAnswer} {after : List ℕ} (a : ShowAllows w before r after) where
+  pub shown-answer : r ≡ showOf w before .answer
+  shown-answer = a .post .0 ∙ (λ i. showOf (a .of-word i) (a .at-entry i) .answer)
+
+  pub shown-output : after ≡ showOf w before .output
+  shown-output = sym (a .at-exit) ∙ a .post .1 ∙ (λ i. showOf (a .of-word i) (a .at-entry i) .output)
+
+pub placed : {w : Word} {r : PlaceAnswer} → PlaceAllows w r → r ≡ placeAnswer w
+placed a = a .post
+
+pub judged : {w : Word} {r : VerdictAnswer} → VerdictAllows w r → r ≡ verdictAnswer w
+judged a = a .post
+
+pub decided : {w : Word} {r : DecisionAnswer} → DecisionAllows w r → r ≡ decisionAnswer w
+decided a = a .post
+
+pub handed-back : {m : ℕ} {ks text part : List ℕ} → CommitAllows m ks text part → part ≡ commitOf m ks text
+handed-back a = sym (a .part-is) ∙ a .post ∙ (λ i. commitOf (a .mode i) (a .keys i) (a .of-text i))
+
+pub answered : {m : ℕ} {ks text : List ℕ} {r : CommitAnswer} → QuestionAllows m ks text r → r ≡ commitAnswer m ks text
+answered a = a .post ∙ (λ i. commitAnswer (a .mode i) (a .keys i) (a .of-text i))
+
+module _ {m : ℕ} {text before : List ℕ} {r : WriteAnswer} {after : List ℕ} (a : SpellAllows m text before r after) where
+  pub spelled-answer : r ≡ spellOf m text before .answer
+  spelled-answer = a .post .0 ∙ (λ i. spellOf (a .mode i) (a .of-text i) (a .at-entry i) .answer)
+
+  pub spelled-output : after ≡ spellOf m text before .output
+  spelled-output = sym (a .at-exit) ∙ a .post .1 ∙ (λ i. spellOf (a .mode i) (a .of-text i) (a .at-entry i) .output)

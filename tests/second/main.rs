@@ -1,8 +1,10 @@
 //! Makes drill lines or speller lines from a seed, runs a program on them, and compares every
-//! byte of its answers with what the second reading of document 01 (rules.rs) says.
+//! byte of its answers with what the second reading of document 01 (rules.rs) says; or answers
+//! the lines of standard input itself, with the columns of the program cards.
 //!
 //!     second drill PROGRAM LINES SEED
 //!     second spell PROGRAM LINES SEED
+//!     second cards < LINES
 
 mod rules;
 
@@ -175,10 +177,31 @@ fn answers_of(program: &str, input: Vec<u8>) -> std::io::Result<Vec<u8>> {
     Ok(output)
 }
 
+/// Each line of standard input answered; a last line without a newline counts if it is not empty.
+fn answer_cards() -> std::io::Result<()> {
+    let mut input = vec![];
+    std::io::stdin().read_to_end(&mut input)?;
+    let mut answers = vec![];
+    for line in input.split_inclusive(|&b| b == b'\n') {
+        answers.extend(rules::card_line(line.strip_suffix(b"\n").unwrap_or(line)));
+        answers.push(b'\n');
+    }
+    std::io::stdout().write_all(&answers)
+}
+
 fn main() -> ExitCode {
     let args: Vec<String> = std::env::args().collect();
+    if args[1..] == ["cards"] {
+        return match answer_cards() {
+            Ok(()) => ExitCode::SUCCESS,
+            Err(e) => {
+                eprintln!("second: {e}");
+                ExitCode::FAILURE
+            }
+        };
+    }
     let [_, what, program, count, seed] = &args[..] else {
-        eprintln!("usage: second drill|spell PROGRAM LINES SEED");
+        eprintln!("usage: second drill|spell PROGRAM LINES SEED, or: second cards < LINES");
         return ExitCode::from(2);
     };
     let spell = what == "spell";

@@ -30,6 +30,7 @@ pub struct Word {
     pub open: bool,
     pub acted: usize,
     pub undone: usize,
+    pub appended: usize,
 }
 
 /// A refusal: its number and the number returned.
@@ -256,7 +257,7 @@ pub fn shown(w: &[Letter], tone: usize) -> String {
 
 impl Word {
     pub fn new(mode: Mode) -> Word {
-        Word { mode, letters: vec![], tone: 0, open: true, acted: 0, undone: 0 }
+        Word { mode, letters: vec![], tone: 0, open: true, acted: 0, undone: 0, appended: 0 }
     }
 
     pub fn keeps(&self) -> bool {
@@ -266,13 +267,18 @@ impl Word {
             || verdict(&self.letters, self.tone) == 0
     }
 
-    fn append(&mut self, key: u8) {
+    fn plain_letter(&mut self, key: u8) {
         let c = key as char;
         self.letters.push(Letter { base: c.to_ascii_lowercase(), shape: Shape::Plain, capital: c.is_ascii_uppercase() });
     }
 
+    fn append(&mut self, key: u8) {
+        self.plain_letter(key);
+        self.appended += 1;
+    }
+
     fn undo(&mut self, key: u8) {
-        self.append(key);
+        self.plain_letter(key);
         self.open = false;
         self.undone += 1;
     }
@@ -502,15 +508,16 @@ fn refused(r: Refused) -> Vec<u8> {
     format!("! {} {}", r.0, r.1).into_bytes()
 }
 
-/// The answer of the drill to one line, without its newline.
-pub fn drill_line(line: &[u8]) -> Vec<u8> {
-    let Some((mode, keys)) = mode_of(line) else { return refused((1, 0)) };
-    let w = match type_all(mode, keys) {
-        Err(r) => return refused(r),
-        Ok(w) => w,
-    };
+/// The word that a line types.
+fn word_of(line: &[u8]) -> Result<Word, Refused> {
+    let (mode, keys) = mode_of(line).ok_or((1, 0))?;
+    type_all(mode, keys)
+}
+
+/// Shown text, what commit hands back, verdict, tone, place, decision.
+fn six_columns(w: &Word, line: &[u8]) -> String {
     let text = shown(&w.letters, w.tone);
-    let raw = String::from_utf8(keys.to_vec()).unwrap();
+    let raw = String::from_utf8(line[2..].to_vec()).unwrap();
     let keeps = w.keeps();
     let or_hyphen = |s: &str| if s.is_empty() { "-".to_string() } else { s.to_string() };
     format!(
@@ -522,7 +529,20 @@ pub fn drill_line(line: &[u8]) -> Vec<u8> {
         place(&w.letters, w.tone).map_or("-".to_string(), |n| n.to_string()),
         if keeps { "K" } else { "R" }
     )
-    .into_bytes()
+}
+
+/// The answer of the drill to one line, without its newline.
+pub fn drill_line(line: &[u8]) -> Vec<u8> {
+    word_of(line).map_or_else(refused, |w| six_columns(&w, line).into_bytes())
+}
+
+/// The answer of the cards program to one line, without its newline: the drill's six columns, the open mark, the number of
+/// letters, and how many keys acted, undid and were appended.
+pub fn card_line(line: &[u8]) -> Vec<u8> {
+    word_of(line).map_or_else(refused, |w| {
+        let mark = if w.open { "open" } else { "closed" };
+        format!("{} {} {} {} {} {}", six_columns(&w, line), mark, w.letters.len(), w.acted, w.undone, w.appended).into_bytes()
+    })
 }
 
 /// The answer of the speller program to one line, without its newline.

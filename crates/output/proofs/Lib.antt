@@ -1,2 +1,3 @@
 pub mod Rooms
+pub mod Within
 pub mod One

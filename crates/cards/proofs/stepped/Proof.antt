@@ -1,10 +1,10 @@
--- `step_vectors::stepped` ends: each turn passes one key.
+-- `cards::stepped` ends: each turn passes one key.
 use Prim.Native.Nat.{_-_}
 use native.Mathlib.Omega.{arith}
 use lib.ListN.{length}
 use borrow.Author.Needs.{needs}
-use Rattle.step_vectors.proofs.stepped.Statement.{statement}
-use Rattle.step_vectors.proofs.stepped.Tie as tie
+use Rattle.cards.proofs.stepped.Statement.{statement}
+use Rattle.cards.proofs.stepped.Tie as tie
 
 abbrev Inv-loop : tie.InvT-loop
 Inv-loop mode keys w₀ i₀ w i = Unit {0}

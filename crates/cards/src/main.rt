@@ -1,6 +1,8 @@
-// Steps each drill line of its input, key by key, and writes the word's verdict, tone, place and decision; of a refused line the refusal.
+// The cards: each drill line of its input stepped key by key, and every column of the word written: shown text, commit, verdict, tone, place,
+// decision, the mark, the number of letters, and how many keys acted, undid and were appended. Of a refused line, the refusal.
 ghost use Prim.Native.Nat.{_≤_};
 ghost use lib.ListN.{length};
+use libc::STDIN_FILENO;
 use libc::STDOUT_FILENO;
 use rules::Decision;
 use rules::DecisionAnswer;
@@ -9,67 +11,97 @@ use rules::PlaceAnswer;
 use rules::TypeAnswer;
 use rules::VerdictAnswer;
 use rules::Word;
+use rules::WriteAnswer;
 
-fn put(n: usize) {
+fn put(text: &[u8]) {
+    io::write_all(STDOUT_FILENO, text);
+}
+
+// A space and a number in decimal.
+fn put_number(n: usize) {
+    put(b" ");
     io::print_decimal(STDOUT_FILENO, n as u64);
 }
 
+// A text, or a hyphen where it is empty.
+fn put_text(text: &[u8]) {
+    if text.len() == 0 {
+        put(b"-");
+        return;
+    }
+    put(text);
+}
+
 fn put_refused(number: u8, value: usize) {
-    io::write_all(STDOUT_FILENO, b"! ");
-    put(number as usize);
-    io::write_all(STDOUT_FILENO, b" ");
-    put(value);
-    io::write_all(STDOUT_FILENO, b"\n");
+    put(b"!");
+    put_number(number as usize);
+    put_number(value);
+}
+
+// The shown text, and what commit hands back for it.
+fn put_texts(mode: u8, keys: &[u8], w: Word) {
+    let mut shown = [0; Word::TEXT];
+    let WriteAnswer::Wrote(n) = show::show(w, &mut shown) else {
+        put(b"!");
+        return;
+    };
+    let text = &shown[0..n];
+    put_text(text);
+    put(b" ");
+    put_text(commit::commit(mode, keys, text));
 }
 
 fn put_verdict(w: Word) {
-    let answer = word::verdict(w);
-    match answer {
-        VerdictAnswer::Judged(v) => put(v as usize),
-        VerdictAnswer::Refused(_) => {
-            io::write_all(STDOUT_FILENO, b"!");
-        }
-    }
+    let VerdictAnswer::Judged(verdict) = word::verdict(w) else {
+        put(b"!");
+        return;
+    };
+    put_number(verdict as usize);
 }
 
 fn put_place(w: Word) {
-    let answer = word::place(w);
-    let PlaceAnswer::Found(place) = answer else {
-        io::write_all(STDOUT_FILENO, b"!");
+    let PlaceAnswer::Found(place) = word::place(w) else {
+        put(b"!");
         return;
     };
     let Place::At(n) = place else {
-        io::write_all(STDOUT_FILENO, b"-");
+        put(b" -");
         return;
     };
-    put(n);
+    put_number(n);
 }
 
 fn put_decision(w: Word) {
-    let answer = word::decision(w);
-    let DecisionAnswer::Decided(decision) = answer else {
-        io::write_all(STDOUT_FILENO, b"!\n");
+    let DecisionAnswer::Decided(decision) = word::decision(w) else {
+        put(b"!");
         return;
     };
     match decision {
-        Decision::Keep => {
-            io::write_all(STDOUT_FILENO, b"K\n");
-        }
-        Decision::Restore => {
-            io::write_all(STDOUT_FILENO, b"R\n");
-        }
+        Decision::Keep => put(b" K"),
+        Decision::Restore => put(b" R"),
     }
 }
 
+fn put_mark(w: Word) {
+    if w.closed {
+        put(b" closed");
+        return;
+    }
+    put(b" open");
+}
+
 // No word that was typed is refused; if one were, a `!` in its line would say so.
-fn put_word(w: Word) {
+fn put_word(mode: u8, keys: &[u8], w: Word) {
+    put_texts(mode, keys, w);
     put_verdict(w);
-    io::write_all(STDOUT_FILENO, b" ");
-    put(w.tone as usize);
-    io::write_all(STDOUT_FILENO, b" ");
+    put_number(w.tone as usize);
     put_place(w);
-    io::write_all(STDOUT_FILENO, b" ");
     put_decision(w);
+    put_mark(w);
+    put_number(w.count as usize);
+    put_number(w.acted as usize);
+    put_number(w.undone as usize);
+    put_number(w.appended as usize);
 }
 
 // The keys one after the other, from a new word.
@@ -92,7 +124,7 @@ fn answer(mode: u8, keys: &[u8]) {
         put_refused(r.number, r.value);
         return;
     }
-    put_word(stepped(mode, keys));
+    put_word(mode, keys, stepped(mode, keys));
 }
 
 // A line is T or V, a space, keys.
@@ -136,12 +168,13 @@ fn answer_lines(text: &[u8]) {
     while at < text.len() {
         let end = line_end(text, at);
         answer_line(&text[at..end]);
+        put(b"\n");
         at = end + 1;
     }
 }
 
 fn main() {
     let mut buffer = io::large_buffer();
-    let n = io::read_full(0, &mut buffer);
+    let n = io::read_full(STDIN_FILENO, &mut buffer);
     answer_lines(&buffer[..n]);
 }

@@ -1,9 +1,9 @@
--- `step_vectors::line_end` ends, at a place of the text that is not before its start.
+-- `cards::line_end` ends, at a place of the text that is not before its start.
 use Prim.Native.Nat.{_≤_, _-_}
 use native.Mathlib.Omega.{arith}
 use lib.ListN.{length}
-use Rattle.step_vectors.proofs.line_end.Statement.{statement}
-use Rattle.step_vectors.proofs.line_end.Tie as tie
+use Rattle.cards.proofs.line_end.Statement.{statement}
+use Rattle.cards.proofs.line_end.Tie as tie
 
 abbrev Inv-loop : tie.InvT-loop
 Inv-loop text from i₀ i = (from ≤ i) × (i ≤ length text)

@@ -172,7 +172,7 @@ fn answers_of(program: &str, input: Vec<u8>) -> std::io::Result<Vec<u8>> {
     writer.join().unwrap()?;
     let status = child.wait()?;
     if !status.success() {
-        eprintln!("second: {program} ended with {status}");
+        return Err(std::io::Error::other(format!("ended with {status}")));
     }
     Ok(output)
 }

@@ -173,6 +173,7 @@ fn answer_lines(text: &[u8]) {
     }
 }
 
+// The input fills one buffer at most.
 fn main() {
     let mut buffer = io::large_buffer();
     let n = io::read_full(STDIN_FILENO, &mut buffer);

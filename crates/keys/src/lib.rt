@@ -35,7 +35,10 @@ pub fn is_digit(key: u8) -> bool
 pub fn is_key(mode: u8, key: u8) -> bool
     ensures { λ r. ⌜ r ≡ isKey mode key ⌝ }
 {
-    is_small(key) | (is_capital(key) | ((mode == Word::VNI) & is_digit(key)))
+    if is_small(key) {
+        return true;
+    }
+    is_capital(key) | ((mode == Word::VNI) & is_digit(key))
 }
 
 fn lower(key: u8) -> u8

@@ -52,13 +52,14 @@ const CAPITAL_D_STROKE_POINT: u16 = D_STROKE_POINT - 1;
 pub fn carries(shape: u8, base: u8) -> bool
     ensures { λ r. ⌜ r ≡ carriesShape shape base ⌝ }
 {
-    if shape == PLAIN {
-        return true;
+    match shape {
+        PLAIN => true,
+        CIRCUMFLEX => (base == b'a') | ((base == b'e') | (base == b'o')),
+        BREVE => base == b'a',
+        HORN => (base == b'o') | (base == b'u'),
+        STROKE => base == b'd',
+        _ => false,
     }
-    ((shape == CIRCUMFLEX) & ((base == b'a') | ((base == b'e') | (base == b'o'))))
-        | (((shape == BREVE) & (base == b'a'))
-            | (((shape == HORN) & ((base == b'o') | (base == b'u')))
-                | ((shape == STROKE) & (base == b'd'))))
 }
 
 // A number that is a letter which a word of the mode can hold.

@@ -427,6 +427,10 @@ fn read(text: &[u8]) -> Result<Vec<(Letter, usize)>, Refused> {
             let (Some(c), None) = (chars.next(), chars.next()) else { break };
             let small = c.to_lowercase().next().unwrap();
             let capital = c != small;
+            // a capital of another alphabet, as the dotted İ, has a small letter of ours and is none of ours
+            if capital && !small.to_uppercase().eq([c]) {
+                break;
+            }
             if let Some(row) = VOWELS.iter().find(|row| row.contains(small)) {
                 let (base, shape) = plain_name(row.chars().next().unwrap());
                 let tone = row.chars().position(|x| x == small).unwrap();

@@ -50,9 +50,12 @@ module _ (text part : List ℕ) (at end : ℕ) (room : at + length part < length
       let whole : take (length text - at) (drop at text) ≡ drop at text = take-all (length text - at) (drop at text) (simp length-drop (omega arith)) in
       simp (e, d, whole) put
 
--- the same bytes, said otherwise
+-- the same bytes, or the same buffer before, said otherwise
 pub as-part : {before after : List ℕ} {at next : ℕ} {p q : List ℕ} → p ≡ q → Appends before after at next p → Appends before after at next q
 as-part {before} {after} {at} {next} e a = subst (Appends before after at next) e a
+
+pub as-before : {before was after : List ℕ} {at next : ℕ} {p : List ℕ} → before ≡ was → Appends before after at next p → Appends was after at next p
+as-before {after = after} {at} {next} {p} e a = subst (λ (l : List ℕ). Appends l after at next p) e a
 
 -- two writings, the second where the first ended
 pub and-then : {before mid after : List ℕ} {at between next : ℕ} {p q : List ℕ} → Appends before mid at between p → Appends mid after between next q → Appends before after at next (p ++ q)

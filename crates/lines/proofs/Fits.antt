@@ -1,14 +1,13 @@
--- An answer line has at most 256 bytes.
+-- An answer line has at most 256 bytes, in either program.
 use mathlib.Core.Path.{_≡_, refl, sym, ap, subst}
-use mathlib.Core.Bool.{Bool, true, false}
+use mathlib.Core.Bool.{false}
 use mathlib.Core.List.{List, [], _∷_, _++_}
 use mathlib.Core.Option.{Option, none, some}
-use Prim.Native.Nat.{ℕ, _-_, _≤_}
+use Prim.Native.Nat.{ℕ, _≤_}
 use Prim.Native.Char.{code}
 use native.Mathlib.Omega.{arith}
-use borrow.Author.Tests.{ltb-true, ltb-false}
-use lib.Dec.{ltb, lit≤}
-use lib.ListN.{length, take, drop, length-append, length-take}
+use lib.Dec.{lit≤}
+use lib.ListN.{length, drop, length-append, length-take}
 use Rattle.rules.specs.TakingApart.{verdict}
 use Rattle.rules.specs.TonePlace.{tonePlace}
 use Rattle.rules.specs.TheWord.{wordOf}
@@ -16,18 +15,26 @@ use Rattle.rules.specs.CodePoints.{shown}
 use Rattle.rules.specs.Decision.{decision, handedBack}
 use Rattle.rules.specs.Refusals.{outOfRange, refusal}
 use Rattle.rules.specs.WhatComesBack.{typeCall, typeOr, typeAll}
-use Rattle.rules.specs.Drill.{decimal, orHyphen, placeColumn, decisionColumn, columns, wordLine, refusedLine, lineOr, keysLine, answerLine}
+use Rattle.rules.specs.Drill.{decimal, orHyphen, placeColumn, decisionColumn, columns, wordLine, refusedLine, lineOr, keysLine}
+use Rattle.rules.specs.SpellProgram.{textCall, spelledOr, spelledLine}
 use Rattle.rules.specs.declared.Word.{Word}
 use Rattle.rules.specs.declared.Refusal.{Refusal}
 use Rattle.rules.specs.declared.Decision.{Decision}
 use Rattle.rules.specs.declared.Decision.the-variants.{Keep, Restore}
 use Rattle.rules.specs.declared.TypeAnswer.the-variants.{Typed}
 use Rattle.rules.proofs.TextFits.{text-fits}
+use Rattle.rules.proofs.Answering.{typed-in-range}
 use Rattle.lines.specs.Appending.{mostInLine}
-use Rattle.lines.specs.Starting.{noMode, modeNamed}
+use Rattle.lines.specs.Programs.{answerOf}
+use Rattle.lines.specs.Starting.{startOf}
+use Rattle.lines.specs.declared.Program.{Program}
+use Rattle.lines.specs.declared.Program.the-variants.{Drill, Spell}
+use Rattle.lines.specs.declared.Start.{Start}
+use Rattle.lines.specs.declared.Start.the-variants.{InMode, Other}
 use Rattle.lines.proofs.Columns.{hyphen-long, handed-long, decimal-long, place-long}
-use Rattle.lines.proofs.Words.{few-typed, in-order, typed-keys}
-use Rattle.lines.proofs.Starts.{too-short, mode-and-keys}
+use Rattle.lines.proofs.Words.{few-typed, typed-keys}
+use Rattle.lines.proofs.Spelled.{few-spelled}
+use Rattle.lines.proofs.Starts.{byStart, started}
 
 -- columns that are short together make a short line
 module _ (a b c : List ℕ) (x y z : ℕ) where
@@ -67,12 +74,19 @@ keys-fit m ks = go (refusal (typeCall m ks)) refl
     go (some x) e = subst (λ (o : Option Refusal). length (lineOr o m ks) ≤ mostInLine) (sym e) (refused-fits x)
     go none e =
         let typed : typeAll m ks .answer ≡ Typed = ap (λ (o : Option Refusal). typeOr o m ks .answer) e in
-        subst (λ (l : List ℕ). length l ≤ mostInLine) (typed-keys m ks typed) (word-fits (typeAll m ks .word) (in-order m ks typed))
+        subst (λ (l : List ℕ). length l ≤ mostInLine) (typed-keys m ks typed) (word-fits (typeAll m ks .word) (typed-in-range m ks typed))
 
-pub answer-fits : (line : List ℕ) → length (answerLine line) ≤ mostInLine
-answer-fits line = go (ltb (length line) 2) refl
+spelled-fits : (m : ℕ) (text : List ℕ) → length (spelledLine m text) ≤ mostInLine
+spelled-fits m text = go (refusal (textCall m text)) refl
   where
-    go : (b : Bool) → ltb (length line) 2 ≡ b → length (answerLine line) ≤ mostInLine
-    go true e = subst (λ (l : List ℕ). length l ≤ mostInLine) (too-short line (ltb-true (length line) 2 e)) (keys-fit noMode line)
-    go false e =
-        subst (λ (l : List ℕ). length l ≤ mostInLine) (mode-and-keys line (ltb-false (length line) 2 e)) (keys-fit (modeNamed line) (take (length line - 2) (drop 2 line)))
+    go : (o : Option Refusal) → refusal (textCall m text) ≡ o → length (spelledLine m text) ≤ mostInLine
+    go (some x) e = subst (λ (o : Option Refusal). length (spelledOr o m text) ≤ mostInLine) (sym e) (refused-fits x)
+    go none e = subst (λ (o : Option Refusal). length (spelledOr o m text) ≤ mostInLine) (sym e) (simp length-append (omega (arith, few-spelled m text e)))
+
+started-fits : (p : Program) (s : Start) (rest : List ℕ) → length (byStart p s rest) ≤ mostInLine
+started-fits Drill (InMode m) rest = keys-fit m rest
+started-fits Spell (InMode m) rest = spelled-fits m rest
+started-fits p Other rest = refused-fits (record { number = 1; value = 0 })
+
+pub answer-fits : (p : Program) (line : List ℕ) → length (answerOf p line) ≤ mostInLine
+answer-fits p line = subst (λ (l : List ℕ). length l ≤ mostInLine) (started p line) (started-fits p (startOf line) (drop 2 line))

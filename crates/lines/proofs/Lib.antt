@@ -1,5 +1,6 @@
 pub mod Columns
 pub mod Words
+pub mod Spelled
 pub mod Starts
 pub mod Fits
 pub mod One

@@ -1,4 +1,4 @@
--- The mode that a line's first two bytes name. Keys in no mode are refusal 1, so a line is its mode and the keys behind them.
+-- How a line starts, by its first two bytes.
 use mathlib.Core.Bool.{Bool, true, false}
 use mathlib.Core.List.{List}
 use Prim.Native.Nat.{ℕ}
@@ -6,15 +6,15 @@ use Prim.Native.Char.{code}
 use lib.Dec.{eqb}
 use lib.ListN.{getD}
 use Rattle.rules.specs.Letters.{telex, vni}
+use Rattle.lines.specs.declared.Start.{Start}
+use Rattle.lines.specs.declared.Start.the-variants.{InMode, Other}
 
-abbrev pub noMode : ℕ
-noMode = 2
+abbrev pub startIf : (isT isV isSpace : Bool) → Start
+startIf isT isV false = Other
+startIf true isV true = InMode telex
+startIf false true true = InMode vni
+startIf false false true = Other
 
-abbrev pub modeIf : (isT isV isSpace : Bool) → ℕ
-modeIf isT isV false = noMode
-modeIf true isV true = telex
-modeIf false true true = vni
-modeIf false false true = noMode
-
-abbrev pub modeNamed : List ℕ → ℕ
-modeNamed line = modeIf (eqb (getD line 0 0) (code "T")) (eqb (getD line 0 0) (code "V")) (eqb (getD line 1 0) (code " "))
+-- a byte that is not there counts as 0
+abbrev pub startOf : List ℕ → Start
+startOf line = startIf (eqb (getD line 0 0) (code "T")) (eqb (getD line 0 0) (code "V")) (eqb (getD line 1 0) (code " "))

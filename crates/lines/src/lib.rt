@@ -1,4 +1,4 @@
-// One drill line to one answer line.
+// One line of a program to its answer line: the drill's, or the speller's.
 ghost use mathlib.Core.Path.{_≡_};
 ghost use mathlib.Core.Bool.{false};
 ghost use mathlib.Core.List.{[], _∷_, _++_};
@@ -10,9 +10,11 @@ ghost use Rattle.rules.specs.TakingApart.{verdict as verdictOf};
 ghost use Rattle.rules.specs.TonePlace.{tonePlace};
 ghost use Rattle.rules.specs.Decision.{decision as decisionOf, handedBack};
 ghost use Rattle.rules.specs.Refusals.{outOfRange};
-ghost use Rattle.rules.specs.Drill.{decimal, orHyphen, placeColumn, decisionColumn, columns, wordLine, refusedLine, keysLine, answerLine, drillLine};
+ghost use Rattle.rules.specs.Drill.{decimal, orHyphen, placeColumn, decisionColumn, columns, wordLine, refusedLine, keysLine};
+ghost use Rattle.rules.specs.SpellProgram.{spelledLine};
 ghost use Rattle.lines.specs.Appending.{Appends, mostInLine, SmallPlace};
-ghost use Rattle.lines.specs.Starting.{modeNamed};
+ghost use Rattle.lines.specs.Programs.{answerOf, lineAnswer};
+ghost use Rattle.lines.specs.Starting.{startOf};
 use rules::Decision;
 use rules::DecisionAnswer;
 use rules::Place;
@@ -27,8 +29,17 @@ const SPACE: u8 = b' ';
 
 const NEWLINE: u8 = b'\n';
 
-// A number that is no mode's.
-const NO_MODE: u8 = 2;
+// The programs that answer lines.
+pub enum Program {
+    Drill,
+    Spell,
+}
+
+// How a line starts: T or V and a space name a mode; any other start names none.
+enum Start {
+    InMode(u8),
+    Other,
+}
 
 // A part and the byte that ends its column, from a place of the text on; the place behind them.
 fn column(text: &mut [u8], at: usize, part: &[u8], end: u8) -> usize
@@ -215,39 +226,64 @@ fn keys_line(text: &mut [u8], mode: u8, keys: &[u8]) -> usize
     word_line(text, all.word)
 }
 
-// The mode that the first two bytes of a line name: T or V, a space. Any other start names none.
-fn mode_of(line: &[u8]) -> u8
-    requires { ⌜ 2 ≤ length (now line) ⌝ }
-    ensures { λ r. ⌜ r ≡ modeNamed (now (line .entry)) ⌝ }
+// The key list of a shown syllable, in the front of the text itself, or the line of its refusal. The text has room for any key list.
+fn spelled_line(text: &mut [u8], mode: u8, syllable: &[u8]) -> usize
+    requires { ⌜ mostInLine ≤ length (now text) ⌝ }
+    ensures { λ r. ⌜ Appends (now (text .entry)) (now (text .exit)) 0 r (spelledLine mode (now (syllable .entry))) ⌝ }
 {
-    if line[1] != SPACE {
-        return NO_MODE;
+    let answer = speller::spell(mode, syllable, text);
+    match answer {
+        WriteAnswer::Refused(refusal) => refused_line(text, refusal),
+        WriteAnswer::Wrote(n) => {
+            text[n] = NEWLINE;
+            n + 1
+        }
     }
-    if line[0] == b'T' {
-        return Word::TELEX;
-    }
-    if line[0] == b'V' {
-        return Word::VNI;
-    }
-    NO_MODE
 }
 
-// The answer to a line. Keys in no mode are refusal 1.
-fn line_text(text: &mut [u8], line: &[u8]) -> usize
-    requires { ⌜ mostInLine ≤ length (now text) ⌝ }
-    ensures { λ r. ⌜ Appends (now (text .entry)) (now (text .exit)) 0 r (answerLine (now (line .entry))) ⌝ }
+fn start_of(line: &[u8]) -> Start
+    ensures { λ r. ⌜ r ≡ startOf (now (line .entry)) ⌝ }
 {
     if line.len() < 2 {
-        return keys_line(text, NO_MODE, line);
+        return Start::Other;
     }
-    keys_line(text, mode_of(line), &line[2..])
+    if line[1] != SPACE {
+        return Start::Other;
+    }
+    if line[0] == b'T' {
+        return Start::InMode(Word::TELEX);
+    }
+    if line[0] == b'V' {
+        return Start::InMode(Word::VNI);
+    }
+    Start::Other
+}
+
+fn line_text(program: Program, text: &mut [u8], line: &[u8]) -> usize
+    requires { ⌜ mostInLine ≤ length (now text) ⌝ }
+    ensures { λ r. ⌜ Appends (now (text .entry)) (now (text .exit)) 0 r (answerOf program (now (line .entry))) ⌝ }
+{
+    let Start::InMode(mode) = start_of(line) else {
+        return refused_line(
+            text,
+            Refusal {
+                number: 1,
+                value: 0,
+            },
+        );
+    };
+    let rest = &line[2..];
+    match program {
+        Program::Drill => keys_line(text, mode, rest),
+        Program::Spell => spelled_line(text, mode, rest),
+    }
 }
 
 // The answer to a line, its newline included, at the front of the output. Refusals: 4 with the bytes needed; the output is then as it was.
-pub fn answer_line(line: &[u8], out: &mut [u8]) -> WriteAnswer
-    ensures { λ r. ⌜ (r ≡ drillLine (now (line .entry)) (now (out .entry)) .answer) × (now (out .exit) ≡ drillLine (now (line .entry)) (now (out .entry)) .output) ⌝ }
+pub fn answer_line(program: Program, line: &[u8], out: &mut [u8]) -> WriteAnswer
+    ensures { λ r. ⌜ (r ≡ lineAnswer program (now (line .entry)) (now (out .entry)) .answer) × (now (out .exit) ≡ lineAnswer program (now (line .entry)) (now (out .entry)) .output) ⌝ }
 {
     let mut text = [0; 256];
-    let n = line_text(&mut text, line);
+    let n = line_text(program, &mut text, line);
     output::write(&text[0..n], out)
 }

@@ -11,7 +11,6 @@ use Rattle.rules.specs.Letters.{telex}
 use Rattle.rules.specs.TheWord.{newWord}
 use Rattle.rules.specs.Refusals.{Call, TableRow, table, firstRow, refusal}
 use Rattle.rules.specs.WhatComesBack.{startCall, startOr, start, stepCall, stepOr, step, typeCall, typeOr, typeAll, writeOr, showCall, show, wordCall, placeOr, placeAnswer, verdictOr, verdictAnswer, decisionOr, decisionAnswer, commitCall, commitOr, commit, grantedOr, commitAnswer, spellCall, spell}
-use Rattle.rules.specs.Drill.{drillCall, drillLine}
 use Rattle.rules.specs.AnswersInNumbers.{Says, answered, refusing, startSays, stepSays, typeSays, writeSays, placeSays, verdictSays, decisionSays, commitSays}
 use Rattle.rules.specs.declared.Word.{Word}
 use Rattle.rules.specs.declared.Refusal.{Refusal}
@@ -127,7 +126,7 @@ pub commit-exactly : (m : ℕ) (ks text : List ℕ) (x : Refusal) → commitSays
 unfolding commitAnswer
 commit-exactly m ks text x = exactly (λ o. commitSays (grantedOr o)) _ refl (λ y. refl) (commitCall m ks text) x
 
-write-exactly : (c : Call) (text out : List ℕ) (x : Refusal) → writeSays (writeOr (refusal c) text out .answer) ≡ refusing x ↔ Given c x
+pub write-exactly : (c : Call) (text out : List ℕ) (x : Refusal) → writeSays (writeOr (refusal c) text out .answer) ≡ refusing x ↔ Given c x
 write-exactly c text out x = exactly (λ o. writeSays (writeOr o text out .answer)) _ refl (λ y. refl) c x
 
 pub show-exactly : (w : Word) (out : List ℕ) (x : Refusal) → writeSays (show w out .answer) ≡ refusing x ↔ Given (showCall w out) x
@@ -138,16 +137,12 @@ pub spell-exactly : (m : ℕ) (text out : List ℕ) (x : Refusal) → writeSays 
 unfolding spell
 spell-exactly m text out x = write-exactly (spellCall m text out) _ out x
 
-pub drill-exactly : (line out : List ℕ) (x : Refusal) → writeSays (drillLine line out .answer) ≡ refusing x ↔ Given (drillCall line out) x
-unfolding drillLine
-drill-exactly line out x = write-exactly (drillCall line out) _ out x
-
 -- What is refused changes nothing: the step gives the word back as it was, and a lent output is as it was; start and typing a list give a new Telex word; commit an empty part.
 pub refused-step : (w : Word) (k : ℕ) (x : Refusal) → stepSays (step w k .answer) ≡ refusing x → step w k .word ≡ w
 unfolding step
 refused-step w k x e = where-refused (λ o. stepSays (stepOr o w k .answer)) _ refl (λ y. refl) (λ o. stepOr o w k .word ≡ w) (λ r. refl) (stepCall w k) x e
 
-write-refused : (c : Call) (text out : List ℕ) (x : Refusal) → writeSays (writeOr (refusal c) text out .answer) ≡ refusing x → writeOr (refusal c) text out .output ≡ out
+pub write-refused : (c : Call) (text out : List ℕ) (x : Refusal) → writeSays (writeOr (refusal c) text out .answer) ≡ refusing x → writeOr (refusal c) text out .output ≡ out
 write-refused c text out x e = where-refused (λ o. writeSays (writeOr o text out .answer)) _ refl (λ y. refl) (λ o. writeOr o text out .output ≡ out) (λ r. refl) c x e
 
 pub refused-show : (w : Word) (out : List ℕ) (x : Refusal) → writeSays (show w out .answer) ≡ refusing x → show w out .output ≡ out
@@ -157,10 +152,6 @@ refused-show w out x e = write-refused (showCall w out) _ out x e
 pub refused-spell : (m : ℕ) (text out : List ℕ) (x : Refusal) → writeSays (spell m text out .answer) ≡ refusing x → spell m text out .output ≡ out
 unfolding spell
 refused-spell m text out x e = write-refused (spellCall m text out) _ out x e
-
-pub refused-drill : (line out : List ℕ) (x : Refusal) → writeSays (drillLine line out .answer) ≡ refusing x → drillLine line out .output ≡ out
-unfolding drillLine
-refused-drill line out x e = write-refused (drillCall line out) _ out x e
 
 pub refused-start : (m : ℕ) (x : Refusal) → startSays (start m .answer) ≡ refusing x → start m .word ≡ newWord telex
 refused-start m x e = where-refused (λ o. startSays (startOr o m .answer)) _ refl (λ y. refl) (λ o. startOr o m .word ≡ newWord telex) (λ r. refl) (startCall m) x e

@@ -1,4 +1,4 @@
--- Document 01, "Drill cards": the starred cards in one list, each with everything that the document says of it; and drill lines with their answers.
+-- Document 01, "Drill cards": the starred cards in one list, each with everything that the document says of it; and lines of the programs with their answers.
 use mathlib.Core.Bool.{Bool, true, false, _&&_, Bool·beq}
 use mathlib.Core.List.{List, [], _∷_, _++_}
 use mathlib.Core.Option.{Option, none, some}
@@ -13,7 +13,7 @@ use Rattle.rules.specs.Decision.{decision}
 use Rattle.rules.specs.CodePoints.{utf8Of, shown}
 use Rattle.rules.specs.Refusals.{sameBytes}
 use Rattle.rules.specs.WhatComesBack.{typed, commit}
-use Rattle.rules.specs.Drill.{newline, answerLine}
+use Rattle.rules.specs.Drill.{newline}
 use Rattle.rules.specs.declared.Place.{Place}
 use Rattle.rules.specs.declared.Place.the-variants.{At, Nowhere}
 use Rattle.rules.specs.declared.Decision.{Decision}
@@ -108,9 +108,23 @@ lines =
     answers "V aaaaaaaaaaaaaaaaaaaaaaaaaaaaaaa!" "! 3 31" ∷
     []
 
-abbrev answersSo : Line → Bool
-answersSo l = sameBytes (answerLine (characters (l .line))) (utf8Of (characters (l .answer)) ++ (newline ∷ []))
+-- Lines of the speller as a program.
+abbrev pub spellLines : List Line
+spellLines =
+    answers "T việt" "vieetj" ∷
+    answers "V đường" "d9uo7ng2" ∷
+    answers "T hoá" "! 7 9" ∷
+    answers "T hóá" "! 7 8" ∷
+    answers "T text" "! 7 5" ∷
+    answers "T " "! 7 1" ∷
+    answers "V a1" "! 6 1" ∷
+    answers "t a" "! 1 0" ∷
+    answers "T aaaaaaaaaaaaaaaaaaaaaaaaaaaaaaaaaaaaaaaaaaaaaaaaaaaaaaaaaaaaaaaaaaaaaaaaaaaaaaaaaaaaaaaaaaaaaaaa1" "! 2 96" ∷
+    []
 
-abbrev pub everyLine : List Line → Bool
-everyLine [] = true
-everyLine (l ∷ ls) = answersSo l && everyLine ls
+abbrev answersSo : (List ℕ → List ℕ) → Line → Bool
+answersSo answer l = sameBytes (answer (utf8Of (characters (l .line)))) (utf8Of (characters (l .answer)) ++ (newline ∷ []))
+
+abbrev pub everyLine : (List ℕ → List ℕ) → List Line → Bool
+everyLine answer [] = true
+everyLine answer (l ∷ ls) = answersSo answer l && everyLine answer ls

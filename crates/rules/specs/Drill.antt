@@ -5,15 +5,14 @@ use mathlib.Core.Option.{Option, none, some}
 use Prim.Native.Nat.{ℕ, _+_, _/_, _%_}
 use Prim.Native.Char.{code}
 use lib.Dec.{eqb, ltb}
-use lib.ListN.{length}
 use Rattle.rules.specs.Letters.{telex, vni, characters}
 use Rattle.rules.specs.TakingApart.{verdict}
 use Rattle.rules.specs.TonePlace.{tonePlace}
 use Rattle.rules.specs.TheWord.{Typed}
 use Rattle.rules.specs.Decision.{decision, handedBack}
 use Rattle.rules.specs.CodePoints.{shown}
-use Rattle.rules.specs.Refusals.{Call, refusal}
-use Rattle.rules.specs.WhatComesBack.{typeCall, typed, Written, writeOr}
+use Rattle.rules.specs.Refusals.{refusal}
+use Rattle.rules.specs.WhatComesBack.{typeCall, typed}
 use Rattle.rules.specs.declared.Refusal.{Refusal}
 use Rattle.rules.specs.declared.Place.{Place}
 use Rattle.rules.specs.declared.Place.the-variants.{At, Nowhere}
@@ -70,21 +69,24 @@ lineOr (some r) m ks = refusedLine r
 abbrev pub keysLine : ℕ → List ℕ → List ℕ
 keysLine m ks = lineOr (refusal (typeCall m ks)) m ks
 
--- A line is T or V, a space, keys; any other start is refusal 1.
+-- A line is T or V, a space, keys; any other start is refusal 1. (What stands for the keys, and what is answered to it, is each program's own.)
 abbrev pub wrongStart : List ℕ
 wrongStart = refusedLine (record { number = 1; value = 0 })
 
-abbrev pub startedLine : (isT isV isSpace : Bool) → List ℕ → List ℕ
-startedLine true isV true ks = keysLine telex ks
-startedLine true isV false ks = wrongStart
-startedLine false true true ks = keysLine vni ks
-startedLine false true false ks = wrongStart
-startedLine false false isSpace ks = wrongStart
+abbrev pub startedLine : (ℕ → List ℕ → List ℕ) → (isT isV isSpace : Bool) → List ℕ → List ℕ
+startedLine answer true isV true rest = answer telex rest
+startedLine answer true isV false rest = wrongStart
+startedLine answer false true true rest = answer vni rest
+startedLine answer false true false rest = wrongStart
+startedLine answer false false isSpace rest = wrongStart
+
+abbrev pub lineBy : (ℕ → List ℕ → List ℕ) → List ℕ → List ℕ
+lineBy answer [] = wrongStart
+lineBy answer (b ∷ []) = wrongStart
+lineBy answer (b ∷ c ∷ rest) = startedLine answer (eqb b (code "T")) (eqb b (code "V")) (eqb c (code " ")) rest
 
 unfoldable pub answerLine : List ℕ → List ℕ
-answerLine [] = wrongStart
-answerLine (b ∷ []) = wrongStart
-answerLine (b ∷ c ∷ ks) = startedLine (eqb b (code "T")) (eqb b (code "V")) (eqb c (code " ")) ks
+answerLine line = lineBy keysLine line
 
 -- Input lines end in a newline; a last line without one counts if not empty. What is not yet ended stands in front.
 abbrev pub lastLine : List ℕ → List (List ℕ)
@@ -95,17 +97,9 @@ abbrev pub linesFrom : List ℕ → List ℕ → List (List ℕ)
 linesFrom line [] = lastLine line
 linesFrom line (b ∷ bs) = elim (eqb b newline) [ true ↦ line ∷ linesFrom [] bs | false ↦ linesFrom (line ++ (b ∷ [])) bs ]
 
-abbrev pub answers : List (List ℕ) → List ℕ
-answers [] = []
-answers (l ∷ ls) = answerLine l ++ answers ls
+abbrev pub answers : (List ℕ → List ℕ) → List (List ℕ) → List ℕ
+answers answer [] = []
+answers answer (l ∷ ls) = answer l ++ answers answer ls
 
 unfoldable pub drill : List ℕ → List ℕ
-drill input = header ++ answers (linesFrom [] input)
-
--- the entry: a line and a lent output.
-abbrev pub drillCall : List ℕ → List ℕ → Call
-drillCall line out =
-    record { record? = none; mode? = none; keys? = none; text? = none; room? = some (record { needed = length (answerLine line); there = length out }) }
-
-unfoldable pub drillLine : List ℕ → List ℕ → Written
-drillLine line out = writeOr (refusal (drillCall line out)) (answerLine line) out
+drill input = header ++ answers answerLine (linesFrom [] input)

@@ -10,6 +10,7 @@ pub mod Decision
 pub mod CodePoints
 pub mod Speller
 pub mod Drill
+pub mod SpellProgram
 pub mod Cards
 pub mod Apprentices
 pub mod HalfMarked

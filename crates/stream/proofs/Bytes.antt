@@ -9,18 +9,21 @@ use lib.Dec.{leb, ltb}
 use lib.ListN.{length, take, drop, set, length-take, length-drop, take-append-drop, drop-of-length-le}
 use lib.Seq.{take-all}
 use Rattle.rules.specs.TheWord.{atFront}
-use Rattle.rules.specs.Refusals.{refusal}
 use Rattle.rules.specs.WhatComesBack.{Written}
-use Rattle.rules.specs.Drill.{newline, answerLine, drillLine}
+use Rattle.rules.specs.Drill.{newline}
 use Rattle.rules.specs.declared.Refusal.{Refusal}
 use Rattle.rules.specs.declared.WriteAnswer.the-variants.{Wrote, Refused}
-use Rattle.stream.specs.Feeding.{mostKept, lineOf, keptIf, kept, ended, ByteFed, byteIf, byteFed, putAt, stepOf, finishOr}
+use Rattle.output.specs.Front.{put}
+use Rattle.output.proofs.Rooms.{has-room as fits, no-room as too-long}
+use Rattle.lines.specs.Programs.{answerOf, lineAnswer}
+use Rattle.lines.specs.declared.Program.{Program}
+use Rattle.stream.specs.Feeding.{mostKept, lineOf, answerNow, keptIf, kept, ended, ByteFed, byteIf, byteFed, putAt, stepOf, finishOr}
 use Rattle.stream.specs.declared.Begun.{Begun}
 use Rattle.stream.specs.declared.Step.{Step}
 
 -- one byte more
 module _ (s : Begun) (b : ℕ) where
-  pub has-room : s .length < mostKept → record { line = set (s .line) (s .length) b; length = s .length + 1 } ≡ kept s b
+  pub has-room : s .length < mostKept → record { program = s .program; line = set (s .line) (s .length) b; length = s .length + 1 } ≡ kept s b
   unfolding kept
   has-room h = sym (ap (λ (c : Bool). keptIf c s b) (lt-ltb (s .length) mostKept h))
 
@@ -42,45 +45,37 @@ line-kept s n long e = go (ltb mostKept (s .length)) refl
         ap (λ (k : ℕ). take k (s .line)) m
 
 -- the answer to a line: it fits the output, or the output is as it was
-module _ (line out : List ℕ) where
-  fits : length (answerLine line) ≤ length out → drillLine line out ≡ record { answer = Wrote (length (answerLine line)); output = atFront (answerLine line) out }
-  unfolding drillLine refusal
-  fits h = simp (le-ltb (length out) (length (answerLine line)) h)
-
-  too-long : length out < length (answerLine line) → drillLine line out ≡ record { answer = Refused (record { number = 4; value = length (answerLine line) }); output = out }
-  unfolding drillLine refusal
-  too-long h = simp (lt-ltb (length out) (length (answerLine line)) h)
-
+module _ (text out : List ℕ) where
   -- by what was answered
   pub record NoRoom : Type 0 where
-    pub test : leb (length (answerLine line)) (length out) ≡ false
-    pub output : drillLine line out .output ≡ out
+    pub test : leb (length text) (length out) ≡ false
+    pub output : put text out .output ≡ out
 
   pub record Room (n : ℕ) : Type 0 where
-    pub test : leb (length (answerLine line)) (length out) ≡ true
-    pub many : n ≡ length (answerLine line)
-    pub output : drillLine line out .output ≡ atFront (answerLine line) out
+    pub test : leb (length text) (length out) ≡ true
+    pub many : n ≡ length text
+    pub output : put text out .output ≡ atFront text out
 
-  pub no-room : (x : Refusal) → drillLine line out .answer ≡ Refused x → NoRoom
-  no-room x e = go (leb (length (answerLine line)) (length out)) refl
+  pub no-room : (x : Refusal) → put text out .answer ≡ Refused x → NoRoom
+  no-room x e = go (leb (length text) (length out)) refl
     where
-      go : (b : Bool) → leb (length (answerLine line)) (length out) ≡ b → NoRoom
+      go : (b : Bool) → leb (length text) (length out) ≡ b → NoRoom
       go true d =
-          let f : Wrote (length (answerLine line)) ≡ Refused x = sym (ap (λ (y : Written). y .answer) (fits (leb-true (length (answerLine line)) (length out) d))) ∙ e in
+          let f : Wrote (length text) ≡ Refused x = sym (ap (λ (y : Written). y .answer) (fits text out (leb-true (length text) (length out) d))) ∙ e in
           let z : _≡_ {A = ℕ} 0 1 = cc in
           absurd (omega arith)
-      go false d = record { test = d; output = ap (λ (y : Written). y .output) (too-long (leb-false (length (answerLine line)) (length out) d)) }
+      go false d = record { test = d; output = ap (λ (y : Written). y .output) (too-long text out (leb-false (length text) (length out) d)) }
 
-  pub room : (n : ℕ) → drillLine line out .answer ≡ Wrote n → Room n
-  room n e = go (leb (length (answerLine line)) (length out)) refl
+  pub room : (n : ℕ) → put text out .answer ≡ Wrote n → Room n
+  room n e = go (leb (length text) (length out)) refl
     where
-      go : (b : Bool) → leb (length (answerLine line)) (length out) ≡ b → Room n
+      go : (b : Bool) → leb (length text) (length out) ≡ b → Room n
       go true d =
-          let g = fits (leb-true (length (answerLine line)) (length out) d) in
-          let f : Wrote (length (answerLine line)) ≡ Wrote n = sym (ap (λ (y : Written). y .answer) g) ∙ e in
+          let g = fits text out (leb-true (length text) (length out) d) in
+          let f : Wrote (length text) ≡ Wrote n = sym (ap (λ (y : Written). y .answer) g) ∙ e in
           record { test = d; many = cc; output = ap (λ (y : Written). y .output) g }
       go false d =
-          let f : Refused (record { number = 4; value = length (answerLine line) }) ≡ Wrote n = sym (ap (λ (y : Written). y .answer) (too-long (leb-false (length (answerLine line)) (length out) d))) ∙ e in
+          let f : Refused (record { number = 4; value = length text }) ≡ Wrote n = sym (ap (λ (y : Written). y .answer) (too-long text out (leb-false (length text) (length out) d))) ∙ e in
           let z : _≡_ {A = ℕ} 0 1 = cc in
           absurd (omega arith)
 
@@ -117,47 +112,47 @@ module _ (s : Begun) (b : ℕ) (out : List ℕ) (at : ℕ) (inside : at ≤ leng
   is-kept h x e =
       let f : ByteFed = record { state = kept s b; text = []; stuck = false } in
       let m : at ≡ at + 0 = omega arith in
-      stepped f (record { state = x; at = at; stuck = false }) out (ap (λ (c : Bool). byteIf c (leb (length (answerLine (lineOf s))) left) s b) (ne-eqb b newline h))
+      stepped f (record { state = x; at = at; stuck = false }) out (ap (λ (c : Bool). byteIf c (leb (length (answerNow s)) left) s b) (ne-eqb b newline h))
       (ap₂ (λ (y : Begun) (k : ℕ). record { state = y; at = k; stuck = false }) e m) nothing-put
 
   module _ (nl : b ≡ newline) (line part : List ℕ) (l : line ≡ lineOf s) where
     room-there : length (take left (drop at out)) ≡ left
     room-there = simp (length-take, length-drop) (omega arith)
 
-    newlined : (fit : Bool) → leb (length (answerLine line)) (length (take left (drop at out))) ≡ fit → fed ≡ byteIf true fit s b
+    newlined : (fit : Bool) → leb (length (answerOf (s .program) line)) (length (take left (drop at out))) ≡ fit → fed ≡ byteIf true fit s b
     unfolding byteFed
-    newlined fit e = ap₂ (λ (c d : Bool). byteIf c d s b) (eq-eqb b newline nl) (ap₂ (λ (k : List ℕ) (n : ℕ). leb (length (answerLine k)) n) (sym l) (sym room-there) ∙ e)
+    newlined fit e = ap₂ (λ (c d : Bool). byteIf c d s b) (eq-eqb b newline nl) (ap₂ (λ (k : List ℕ) (n : ℕ). leb (length (answerOf (s .program) k)) n) (sym l) (sym room-there) ∙ e)
 
-    pub is-stuck : (x : Refusal) → drillLine line (take left (drop at out)) .answer ≡ Refused x → part ≡ drillLine line (take left (drop at out)) .output
+    pub is-stuck : (x : Refusal) → lineAnswer (s .program) line (take left (drop at out)) .answer ≡ Refused x → part ≡ lineAnswer (s .program) line (take left (drop at out)) .output
         → Stepped (record { state = s; at = at; stuck = true }) (take at out ++ (part ++ drop left (drop at out)))
     is-stuck x a p =
-        let no = no-room line (take left (drop at out)) x a in
+        let no = no-room (answerOf (s .program) line) (take left (drop at out)) x a in
         let f : ByteFed = record { state = s; text = []; stuck = true } in
         let m : at ≡ at + 0 = omega arith in
         stepped f (record { state = s; at = at; stuck = true }) (take at out ++ (part ++ drop left (drop at out))) (newlined false (no .test))
         (ap (λ (k : ℕ). record { state = s; at = k; stuck = true }) m) (as-it-was part (p ∙ no .output))
 
-    pub is-answered : (n : ℕ) → drillLine line (take left (drop at out)) .answer ≡ Wrote n → part ≡ drillLine line (take left (drop at out)) .output
+    pub is-answered : (n : ℕ) → lineAnswer (s .program) line (take left (drop at out)) .answer ≡ Wrote n → part ≡ lineAnswer (s .program) line (take left (drop at out)) .output
         → Stepped (record { state = ended s; at = at + n; stuck = false }) (take at out ++ (part ++ drop left (drop at out)))
     is-answered n a p =
-        let yes = room line (take left (drop at out)) n a in
-        let text = answerLine (lineOf s) in
+        let yes = room (answerOf (s .program) line) (take left (drop at out)) n a in
+        let text = answerNow s in
         let f : ByteFed = record { state = ended s; text = text; stuck = false } in
-        let long : n ≡ length text = yes .many ∙ ap (λ (k : List ℕ). length (answerLine k)) l in
-        let front : part ≡ atFront text (drop at out) = p ∙ yes .output ∙ ap₂ (λ (k o : List ℕ). atFront (answerLine k) o) l whole in
+        let long : n ≡ length text = yes .many ∙ ap (λ (k : List ℕ). length (answerOf (s .program) k)) l in
+        let front : part ≡ atFront text (drop at out) = p ∙ yes .output ∙ ap₂ (λ (k o : List ℕ). atFront (answerOf (s .program) k) o) l whole in
         stepped f (record { state = ended s; at = at + n; stuck = false }) (take at out ++ (part ++ drop left (drop at out))) (newlined true (yes .test))
         (ap (λ (k : ℕ). record { state = ended s; at = at + k; stuck = false }) long)
         (ap₂ (λ (x y : List ℕ). take at out ++ (x ++ y)) front behind ∙ ap (λ (x : List ℕ). take at out ++ x) (append-nil (atFront text (drop at out))))
 
-    pub fits-there : (n : ℕ) → drillLine line (take left (drop at out)) .answer ≡ Wrote n → at + n ≤ length out
+    pub fits-there : (n : ℕ) → lineAnswer (s .program) line (take left (drop at out)) .answer ≡ Wrote n → at + n ≤ length out
     fits-there n a =
-        let yes = room line (take left (drop at out)) n a in
-        omega (arith, yes .many, leb-true (length (answerLine line)) (length (take left (drop at out))) (yes .test), room-there)
+        let yes = room (answerOf (s .program) line) (take left (drop at out)) n a in
+        omega (arith, yes .many, leb-true (length (answerOf (s .program) line)) (length (take left (drop at out))) (yes .test), room-there)
 
 -- the last line
-pub some-line : (line out : List ℕ) → 0 < length line → drillLine line out ≡ finishOr line out
-some-line [] out h = absurd (omega arith)
-some-line (b ∷ bs) out h = refl
+pub some-line : (p : Program) (line out : List ℕ) → 0 < length line → lineAnswer p line out ≡ finishOr p line out
+some-line p [] out h = absurd (omega arith)
+some-line p (b ∷ bs) out h = refl
 
 pub some-kept : (s : Begun) → length (s .line) ≡ mostKept → (s .length ≡ 0 → ⊥) → 0 < length (lineOf s)
 some-kept s long h = go (s .length) refl

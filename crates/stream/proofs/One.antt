@@ -16,7 +16,7 @@ use Rattle.stream.proofs.finish.Reads as finish-reads
 pub new-one : (κs : Lfts 0) (a : Args new.signature κs) (r r′ : Res new.signature κs) (e e′ : AtExit new.ended κs) → new-reads.Post κs a r e → new-reads.Post κs a r′ e′ → r ≡ r′
 new-one κs a r r′ e e′ p p′ = p ∙ sym p′
 
-pub header-one : (κs : Lfts 1) (a : Args header.signature κs) (r r′ : Res header.signature κs) (e e′ : AtExit header.ended κs) → header-reads.Post κs a r e → header-reads.Post κs a r′ e′ → (r ≡ r′) × (now (e .0) ≡ now (e′ .0))
+pub header-one : (κs : Lfts 1) (a : Args header.signature κs) (r r′ : Res header.signature κs) (e e′ : AtExit header.ended κs) → header-reads.Post κs a r e → header-reads.Post κs a r′ e′ → (r ≡ r′) × (now (e .1 .0) ≡ now (e′ .1 .0))
 header-one κs a r r′ e e′ p p′ = (p .0 ∙ sym (p′ .0), p .1 ∙ sym (p′ .1))
 
 pub feed-one : (κs : Lfts 2) (a : Args feed.signature κs) (r r′ : Res feed.signature κs) (e e′ : AtExit feed.ended κs) → feed-reads.Post κs a r e → feed-reads.Post κs a r′ e′ → (r ≡ r′) × (now (e .1 .1 .1 .0) ≡ now (e′ .1 .1 .1 .0))

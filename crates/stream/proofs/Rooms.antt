@@ -7,15 +7,15 @@ use native.Mathlib.Omega.{arith}
 use borrow.Author.Tests.{le-leb}
 use lib.Dec.{eqb, leb}
 use lib.ListN.{length}
-use Rattle.rules.specs.Drill.{newline, answerLine}
+use Rattle.rules.specs.Drill.{newline}
 use Rattle.lines.specs.Appending.{mostInLine}
 use Rattle.lines.proofs.Fits.{answer-fits}
-use Rattle.stream.specs.Feeding.{lineOf, byteIf, byteFed, stopped, after, Feeding, feeding}
+use Rattle.stream.specs.Feeding.{lineOf, answerNow, byteIf, byteFed, stopped, after, Feeding, feeding}
 use Rattle.stream.specs.declared.Begun.{Begun}
 
 never-stuck : (s : Begun) (b room : ℕ) → mostInLine ≤ room → byteFed s b room .stuck ≡ false
 unfolding byteFed
-never-stuck s b room h = go (eqb b newline) (leb (length (answerLine (lineOf s))) room) (le-leb (length (answerLine (lineOf s))) room (omega (arith, answer-fits (lineOf s))))
+never-stuck s b room h = go (eqb b newline) (leb (length (answerNow s)) room) (le-leb (length (answerNow s)) room (omega (arith, answer-fits (s .program) (lineOf s))))
   where
     go : (e f : Bool) → f ≡ true → byteIf e f s b .stuck ≡ false
     go false f d = refl

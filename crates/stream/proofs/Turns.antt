@@ -9,8 +9,8 @@ use lib.Dec.{eqb, leb}
 use lib.ListN.{length, take, drop, getD, length-append, length-take, length-drop, take-append-drop, drop-of-length-le}
 use lib.Seq.{drop-cons, drop-drop, take-at, drop-at, length-take-le}
 use Rattle.rules.specs.TheWord.{atFront}
-use Rattle.rules.specs.Drill.{newline, answerLine}
-use Rattle.stream.specs.Feeding.{lineOf, ByteFed, byteIf, byteFed, Feeding, stopped, after, feeding, putAt, stepOf, fedOf}
+use Rattle.rules.specs.Drill.{newline}
+use Rattle.stream.specs.Feeding.{answerNow, ByteFed, byteIf, byteFed, Feeding, stopped, after, feeding, putAt, stepOf, fedOf}
 use Rattle.stream.specs.declared.Begun.{Begun}
 use Rattle.stream.specs.declared.Step.{Step}
 use Rattle.stream.specs.declared.Fed.{Fed}
@@ -18,17 +18,17 @@ use Rattle.stream.specs.declared.Fed.{Fed}
 -- what a byte writes has room
 text-fits : (s : Begun) (b room : ℕ) → length (byteFed s b room .text) ≤ room
 unfolding byteFed
-text-fits s b room = go (eqb b newline) (leb (length (answerLine (lineOf s))) room) refl
+text-fits s b room = go (eqb b newline) (leb (length (answerNow s)) room) refl
   where
-    go : (e f : Bool) → leb (length (answerLine (lineOf s))) room ≡ f → length (byteIf e f s b .text) ≤ room
+    go : (e f : Bool) → leb (length (answerNow s)) room ≡ f → length (byteIf e f s b .text) ≤ room
     go false f d = omega arith
-    go true true d = leb-true (length (answerLine (lineOf s))) room d
+    go true true d = leb-true (length (answerNow s)) room d
     go true false d = omega arith
 
 -- and where it is stuck it writes nothing
 stuck-nothing : (s : Begun) (b room : ℕ) → byteFed s b room .stuck ≡ true → byteFed s b room .text ≡ []
 unfolding byteFed
-stuck-nothing s b room = go (eqb b newline) (leb (length (answerLine (lineOf s))) room)
+stuck-nothing s b room = go (eqb b newline) (leb (length (answerNow s)) room)
   where
     go : (e f : Bool) → byteIf e f s b .stuck ≡ true → byteIf e f s b .text ≡ []
     go false f d = refl

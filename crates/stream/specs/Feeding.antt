@@ -1,31 +1,37 @@
--- A stream of drill lines in blocks: what is kept of the line that has begun, and what feeding bytes writes.
--- Of a line only the first 35 bytes matter: T or V, a space, and 33 keys, which are more than a word takes.
+-- A stream of a program's lines in blocks: what is kept of the line that has begun, and what feeding bytes writes.
+-- Of a line only the first 99 bytes matter: T or V, a space, and 97 bytes, which are more than a text may have, and more than a word takes.
 use mathlib.Core.Bool.{Bool, true, false}
 use mathlib.Core.List.{List, [], _∷_, _++_}
 use Prim.Native.Nat.{ℕ, _+_, _-_}
 use lib.Dec.{eqb, leb, ltb}
 use lib.ListN.{length, take, drop, set, replicate}
 use Rattle.rules.specs.WhatComesBack.{Written}
-use Rattle.rules.specs.Drill.{newline, answerLine, lastLine, answers, drillLine}
+use Rattle.rules.specs.Drill.{newline, lastLine, answers}
 use Rattle.rules.specs.TheWord.{atFront}
 use Rattle.rules.specs.declared.WriteAnswer.the-variants.{Wrote}
+use Rattle.lines.specs.Programs.{answerOf, lineAnswer}
+use Rattle.lines.specs.declared.Program.{Program}
 use Rattle.stream.specs.declared.Begun.{Begun}
 use Rattle.stream.specs.declared.Fed.{Fed}
 use Rattle.stream.specs.declared.Step.{Step}
 
 abbrev pub mostKept : ℕ
-mostKept = 35
+mostKept = 99
 
-abbrev pub noneBegun : Begun
-noneBegun = record { line = replicate mostKept 0; length = 0 }
+abbrev pub noneBegun : Program → Begun
+noneBegun p = record { program = p; line = replicate mostKept 0; length = 0 }
 
 -- the line that has begun, as far as it is kept
 abbrev pub lineOf : Begun → List ℕ
 lineOf s = take (s .length) (s .line)
 
+-- the answer to it
+abbrev pub answerNow : Begun → List ℕ
+answerNow s = answerOf (s .program) (lineOf s)
+
 -- one byte more of it
 abbrev pub keptIf : Bool → Begun → ℕ → Begun
-keptIf true s b = record { line = set (s .line) (s .length) b; length = s .length + 1 }
+keptIf true s b = record { program = s .program; line = set (s .line) (s .length) b; length = s .length + 1 }
 keptIf false s b = s
 
 unfoldable pub kept : Begun → ℕ → Begun
@@ -33,7 +39,7 @@ kept s b = keptIf (ltb (s .length) mostKept) s b
 
 -- and the next one, of which nothing is kept yet
 abbrev pub ended : Begun → Begun
-ended s = record { line = s .line; length = 0 }
+ended s = record { program = s .program; line = s .line; length = 0 }
 
 -- What one byte does, with so much room for the answer: a newline has the line answered, or is stuck; any other byte is kept.
 pub record ByteFed : Type 0 where
@@ -43,11 +49,11 @@ pub record ByteFed : Type 0 where
 
 abbrev pub byteIf : (isEnd fits : Bool) → Begun → ℕ → ByteFed
 byteIf false fits s b = record { state = kept s b; text = []; stuck = false }
-byteIf true true s b = record { state = ended s; text = answerLine (lineOf s); stuck = false }
+byteIf true true s b = record { state = ended s; text = answerNow s; stuck = false }
 byteIf true false s b = record { state = s; text = []; stuck = true }
 
 unfoldable pub byteFed : Begun → ℕ → ℕ → ByteFed
-byteFed s b room = byteIf (eqb b newline) (leb (length (answerLine (lineOf s))) room) s b
+byteFed s b room = byteIf (eqb b newline) (leb (length (answerNow s)) room) s b
 
 -- What bytes do, as far as there is room: the state after them, how many were taken, and the text written.
 pub record Feeding : Type 0 where
@@ -81,16 +87,16 @@ abbrev pub fedOf : ℕ → Feeding → Fed
 fedOf from f = record { state = f .state; taken = from + f .taken; written = length (f .text) }
 
 -- A last line without a newline counts if not empty.
-abbrev pub finishOr : List ℕ → List ℕ → Written
-finishOr [] out = record { answer = Wrote 0; output = out }
-finishOr (b ∷ bs) out = drillLine (b ∷ bs) out
+abbrev pub finishOr : Program → List ℕ → List ℕ → Written
+finishOr p [] out = record { answer = Wrote 0; output = out }
+finishOr p (b ∷ bs) out = lineAnswer p (b ∷ bs) out
 
 abbrev pub finishing : Begun → List ℕ → Written
-finishing s out = finishOr (lineOf s) out
+finishing s out = finishOr (s .program) (lineOf s) out
 
 -- A run from a state over the bytes still to come, and all that it writes. Blocks are cut anywhere, each is fed with any room, and what it does not take is fed again.
 pub data Run : Begun → List ℕ → List ℕ → Type 0 where
-  finished : {s : Begun} → Run s [] (answers (lastLine (lineOf s)))
+  finished : {s : Begun} → Run s [] (answers (answerOf (s .program)) (lastLine (lineOf s)))
   fed : {s : Begun} (block later : List ℕ) (room : ℕ) {text : List ℕ}
       → Run (feeding s block room .state) (drop (feeding s block room .taken) block ++ later) text
       → Run s (block ++ later) (feeding s block room .text ++ text)

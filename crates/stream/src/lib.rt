@@ -1,16 +1,18 @@
-// A stream of drill lines through fixed buffers: lines of any length, in blocks cut anywhere.
+// A stream of a program's lines through fixed buffers: lines of any length, in blocks cut anywhere.
 ghost use mathlib.Core.Path.{_≡_};
 ghost use Prim.Native.Nat.{_-_, _≤_, min};
 ghost use lib.ListN.{length, drop};
 ghost use Rattle.rules.specs.TheWord.{atFront};
-ghost use Rattle.rules.specs.Drill.{header as headerOf};
 ghost use Rattle.output.specs.Front.{put};
-ghost use Rattle.stream.specs.Feeding.{mostKept, noneBegun, kept as keptOf, byteFed, feeding, putAt, stepOf, fedOf, finishing};
+ghost use Rattle.lines.specs.Programs.{headerOf};
+ghost use Rattle.stream.specs.Feeding.{noneBegun, kept as keptOf, byteFed, feeding, putAt, stepOf, fedOf, finishing};
+use lines::Program;
 use rules::WriteAnswer;
 
-// The line that has begun: its first bytes, as many as an answer can depend on, and how many they are.
+// The program, and the line that has begun: its first bytes, as many as an answer can depend on, and how many they are.
 pub struct Begun {
-    pub line: [u8; 35],
+    pub program: Program,
+    pub line: [u8; 99],
     pub length: usize,
 }
 
@@ -29,23 +31,27 @@ struct Step {
 }
 
 impl Begun {
-    pub const MOST: usize = 35;
+    pub const MOST: usize = 99;
 
-    pub fn new() -> Begun
-        ensures { λ r. ⌜ r ≡ noneBegun ⌝ }
+    pub fn new(program: Program) -> Begun
+        ensures { λ r. ⌜ r ≡ noneBegun program ⌝ }
     {
         Begun {
-            line: [0; 35],
+            program: program,
+            line: [0; 99],
             length: 0,
         }
     }
 }
 
-// The first line of every run, at the front of the output. Refusals: 4 with the bytes needed; the output is then as it was.
-pub fn header(out: &mut [u8]) -> WriteAnswer
-    ensures { λ r. ⌜ (r ≡ put headerOf (now (out .entry)) .answer) × (now (out .exit) ≡ put headerOf (now (out .entry)) .output) ⌝ }
+// What stands in front of all answers, at the front of the output: the drill's first line, and nothing for the speller. Refusals: 4 with the bytes needed; the output is then as it was.
+pub fn header(program: Program, out: &mut [u8]) -> WriteAnswer
+    ensures { λ r. ⌜ (r ≡ put (headerOf program) (now (out .entry)) .answer) × (now (out .exit) ≡ put (headerOf program) (now (out .entry)) .output) ⌝ }
 {
-    output::write(b"shown commit verdict tone place decision\n", out)
+    match program {
+        Program::Drill => output::write(b"shown commit verdict tone place decision\n", out),
+        Program::Spell => output::write(b"", out),
+    }
 }
 
 fn least(a: usize, b: usize) -> usize
@@ -59,9 +65,11 @@ fn kept(state: Begun, b: u8) -> Begun
 {
     let length = state.length;
     if length < Begun::MOST {
+        let program = state.program;
         let mut line = state.line;
         line[length] = b;
         return Begun {
+            program: program,
             line: line,
             length: length + 1,
         };
@@ -80,9 +88,10 @@ fn feed_byte(state: Begun, b: u8, out: &mut [u8], at: usize) -> Step
             stuck: false,
         };
     }
+    let program = state.program;
     let line = state.line;
     let n = least(state.length, Begun::MOST);
-    let answer = lines::answer_line(&line[0..n], &mut out[at..]);
+    let answer = lines::answer_line(program, &line[0..n], &mut out[at..]);
     let WriteAnswer::Wrote(written) = answer else {
         return Step {
             state: state,
@@ -92,6 +101,7 @@ fn feed_byte(state: Begun, b: u8, out: &mut [u8], at: usize) -> Step
     };
     Step {
         state: Begun {
+            program: program,
             line: line,
             length: 0,
         },
@@ -134,7 +144,8 @@ pub fn finish(state: Begun, out: &mut [u8]) -> WriteAnswer
     if state.length == 0 {
         return WriteAnswer::Wrote(0);
     }
+    let program = state.program;
     let line = state.line;
     let n = least(state.length, Begun::MOST);
-    lines::answer_line(&line[0..n], out)
+    lines::answer_line(program, &line[0..n], out)
 }

@@ -21,5 +21,5 @@ answer-line-spec =
     let wrote = c .before .before in
     let made = wrote .before .before .before .before .before in
     let at = made .before .before .before .before in
-    let e = put-line (at .args .line .now) (at .args .out .now) _ _ (made .line-text .result) (made .line-text .ensures) in
+    let e = put-line (at .args .program) (at .args .line .now) (at .args .out .now) _ _ (made .line-text .result) (made .line-text .ensures) in
     (wrote .write .ensures .0 ∙ ap (λ (x : Written). x .answer) e, wrote .write .ensures .1 ∙ ap (λ (x : Written). x .output) e)))

@@ -1,6 +1,6 @@
 -- `lines::decision` meets its contract, by that of `word::decision`.
 use borrow.Author.Needs.{needs}
-use Rattle.lines.proofs.Words.{is-decided, its-decision}
+use Rattle.rules.proofs.Answering.{is-decided, its-decision}
 use Rattle.lines.proofs.decision.Statement.{statement}
 use Rattle.lines.proofs.decision.Tie as tie
 

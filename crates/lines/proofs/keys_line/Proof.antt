@@ -5,8 +5,9 @@ use Rattle.rules.specs.TheWord.{wordOf}
 use Rattle.rules.specs.Drill.{wordLine}
 use Rattle.rules.specs.Refusals.{outOfRange}
 use Rattle.rules.specs.declared.TypeAll.{TypeAll}
+use Rattle.rules.proofs.Answering.{typed-in-range}
 use Rattle.lines.proofs.Columns.{as-part}
-use Rattle.lines.proofs.Words.{refused-keys, small-value, in-order, typed-keys}
+use Rattle.lines.proofs.Words.{refused-keys, small-value, typed-keys}
 use Rattle.lines.proofs.keys_line.Statement.{statement}
 use Rattle.lines.proofs.keys_line.Tie as tie
 
@@ -34,7 +35,7 @@ keys-line-spec =
     let at = all .before .before .before in
     let e = all .type-all .ensures in
     let typed = sym (ap (λ (t : TypeAll). t .answer) e) ∙ told .enum-told .given .1 in
-    (at .pre, ap (λ (t : TypeAll). outOfRange (t .word)) e ∙ in-order (at .args .mode) (at .args .keys .now) typed))
+    (at .pre, ap (λ (t : TypeAll). outOfRange (t .word)) e ∙ typed-in-range (at .args .mode) (at .args .keys .now) typed))
     (λ c. search needs)
     (λ c.
     let told = c .before .before .before .before in

@@ -1,13 +1,16 @@
--- `lines::line_text` meets its contract: keys in the mode that the start names, or in none.
-use mathlib.Core.Path.{ap, _∙_}
+-- `lines::line_text` meets its contract: refusal 1, or what the program answers in the mode that the start names.
+use mathlib.Core.Path.{_≡_, sym, _∙_}
 use borrow.Author.Needs.{needs}
-use lib.ListN.{length, take, drop}
-use Prim.Native.Nat.{ℕ, _-_}
-use Rattle.rules.specs.Drill.{keysLine}
+use Rattle.lines.specs.Starting.{startOf}
+use Rattle.lines.specs.declared.Start.the-variants.{InMode}
 use Rattle.lines.proofs.Columns.{as-part}
-use Rattle.lines.proofs.Starts.{too-short, mode-and-keys}
+use Rattle.lines.proofs.Starts.{wrong-start, two-bytes, in-mode}
 use Rattle.lines.proofs.line_text.Statement.{statement}
 use Rattle.lines.proofs.line_text.Tie as tie
+
+-- where a mode is told, the line starts in it
+is-in : (c : tie.After-mode) → startOf (c .before .before .before .before .before .args .line .now) ≡ InMode (c .mode .given .0 .0)
+is-in c = sym (c .before .before .start-of .ensures) ∙ c .mode .given .1
 
 pub line-text-spec : {M : Type 1} → statement M
 line-text-spec =
@@ -15,18 +18,30 @@ line-text-spec =
     (tie.spec
     (λ c κs. search needs)
     (λ c. search needs)
-    (λ c.
-    let short = c .before .before .before .before in
-    as-part (too-short (short .before .before .before .args .line .now) (short .if1 .taken)) (c .before .before .keys-line .ensures))
-    (λ c κs. search needs)
-    (λ c. search needs)
-    (λ c. search needs)
     (λ c. search needs)
     (λ c κs. search needs)
     (λ c. search needs)
     (λ c.
-    let named = c .before .before .before .before in
-    let two = named .before .before in
-    let at = two .before .before .before in
-    let line = at .args .line .now in
-    as-part (ap (λ (m : ℕ). keysLine m (take (length line - 2) (drop 2 line))) (named .mode-of .ensures) ∙ mode-and-keys line (two .if1 .left)) (c .before .before .keys-line2 .ensures)))
+    let told = c .before .before .before .before in
+    let start = told .before .before in
+    let args = start .before .before .before .args in
+    as-part (wrong-start (args .program) (args .line .now) (sym (start .start-of .ensures) ∙ told .enum-told .given .1)) (c .before .before .refused-line .ensures))
+    (λ c. let two = two-bytes (c .before .before .before .before .before .before .args .program) (c .before .before .before .before .before .before .args .line .now) _ (is-in (c .before)) in search needs)
+    (λ c. let two = two-bytes (c .before .before .before .before .before .before .args .program) (c .before .before .before .before .before .before .args .line .now) _ (is-in (c .before)) in search needs)
+    (λ c. search needs)
+    (λ c. search needs)
+    (λ c κs. search needs)
+    (λ c. search needs)
+    (λ c κs. search needs)
+    (λ c. search needs)
+    (λ c.
+    let which = c .before .before .before .before in
+    let told = which .before .before .before .before in
+    let args = told .before .before .before .before .before .args in
+    as-part (in-mode (args .program) (args .line .now) _ (is-in told) _ (which .enum-told2 .given .1)) (c .before .before .keys-line .ensures))
+    (λ c. search needs)
+    (λ c.
+    let which = c .before .before .before .before in
+    let told = which .before .before .before .before in
+    let args = told .before .before .before .before .before .args in
+    as-part (in-mode (args .program) (args .line .now) _ (is-in told) _ (which .enum-told3 .given .1)) (c .before .before .spelled-line .ensures)))

@@ -1,6 +1,6 @@
 -- `lines::place` meets its contract, by that of `word::place`.
 use borrow.Author.Needs.{needs}
-use Rattle.lines.proofs.Words.{is-found, its-place}
+use Rattle.rules.proofs.Answering.{is-found, its-place}
 use Rattle.lines.proofs.place.Statement.{statement}
 use Rattle.lines.proofs.place.Tie as tie
 

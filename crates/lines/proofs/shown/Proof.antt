@@ -1,7 +1,7 @@
 -- `lines::shown` meets its contract, by that of `show::show`.
 use mathlib.Core.Path.{_∙_}
 use borrow.Author.Needs.{needs}
-use Rattle.lines.proofs.Words.{writes, so-long, in-front}
+use Rattle.rules.proofs.Answering.{is-written, so-long, in-front}
 use Rattle.lines.proofs.shown.Statement.{statement}
 use Rattle.lines.proofs.shown.Tie as tie
 
@@ -16,7 +16,7 @@ shown-spec =
     (λ c.
     let all = c .before .before .before .before in
     let at = all .before .before .before in
-    absurd (writes (at .args .w) (at .pre .0) (at .args .buffer .now) (at .pre .1) (all .show .result) (all .show .ensures .0) _ (c .enum-told .given .1)))
+    absurd (is-written (at .args .w) (at .pre .0) (at .args .buffer .now) (at .pre .1) (all .show .result) (all .show .ensures .0) _ (c .enum-told .given .1)))
     (λ c. search needs)
     (λ c.
     let wrote = c .before in

@@ -1,6 +1,6 @@
 -- `lines::verdict` meets its contract, by that of `word::verdict`.
 use borrow.Author.Needs.{needs}
-use Rattle.lines.proofs.Words.{is-judged, its-verdict}
+use Rattle.rules.proofs.Answering.{is-judged, its-verdict}
 use Rattle.lines.proofs.verdict.Statement.{statement}
 use Rattle.lines.proofs.verdict.Tie as tie
 

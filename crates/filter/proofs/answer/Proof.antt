@@ -1,4 +1,4 @@
--- `drill::answer` is safe and ends: each turn takes a byte at least. The output keeps its length.
+-- `filter::answer` is safe and ends: each turn takes a byte at least. The output keeps its length.
 use mathlib.Core.Path.{_≡_, refl, ap}
 use Prim.Native.Nat.{_-_, _≤_, _<_}
 use native.Mathlib.Omega.{arith}
@@ -8,15 +8,15 @@ use Rattle.lines.specs.Appending.{mostInLine}
 use Rattle.stream.specs.Feeding.{feeding}
 use Rattle.stream.specs.declared.Fed.{Fed}
 use Rattle.stream.proofs.Rooms.{some-taken}
-use Rattle.drill.proofs.Lengths.{fed-in-front}
-use Rattle.drill.proofs.answer.Statement.{statement}
-use Rattle.drill.proofs.answer.Tie as tie
+use Rattle.filter.proofs.Lengths.{fed-in-front}
+use Rattle.filter.proofs.answer.Statement.{statement}
+use Rattle.filter.proofs.answer.Tie as tie
 
 abbrev Inv-loop : tie.InvT-loop
-Inv-loop block out₀ s₀ from₀ out s from = length out ≡ length out₀
+Inv-loop block out₀ program s₀ from₀ out s from = length out ≡ length out₀
 
 abbrev μ-loop : tie.MeasureT-loop
-μ-loop block out₀ s₀ from₀ out s from = length block - from
+μ-loop block out₀ program s₀ from₀ out s from = length block - from
 
 pub answer-spec : {M : Type 1} → statement M
 answer-spec =

@@ -1,10 +1,10 @@
--- `drill::run` is safe and ends: its turns are counted down. The buffers keep their lengths.
+-- `filter::passes` is safe and ends: its turns are counted down. The buffers keep their lengths.
 use mathlib.Core.Path.{_≡_, refl}
 use native.Mathlib.Omega.{arith}
 use lib.ListN.{length}
 use borrow.Author.Needs.{needs}
-use Rattle.drill.proofs.run.Statement.{statement}
-use Rattle.drill.proofs.run.Tie as tie
+use Rattle.filter.proofs.passes.Statement.{statement}
+use Rattle.filter.proofs.passes.Tie as tie
 
 abbrev Inv-loop : tie.InvT-loop
 Inv-loop block₀ out₀ state₀ turns₀ block out state turns = (length block ≡ length block₀) × (length out ≡ length out₀)
@@ -12,8 +12,8 @@ Inv-loop block₀ out₀ state₀ turns₀ block out state turns = (length block
 abbrev μ-loop : tie.MeasureT-loop
 μ-loop block₀ out₀ state₀ turns₀ block out state turns = turns
 
-pub run-spec : {M : Type 1} → statement M
-run-spec =
+pub passes-spec : {M : Type 1} → statement M
+passes-spec =
     tie.close
     (tie.spec Inv-loop μ-loop
     (λ c κs. search needs)

@@ -1,11 +1,11 @@
--- `drill::main` is safe: the header lies within the output.
+-- `filter::run` is safe: the header lies within the output.
 use borrow.Author.Needs.{needs}
-use Rattle.drill.proofs.Lengths.{header-in-front}
-use Rattle.drill.proofs.main.Statement.{statement}
-use Rattle.drill.proofs.main.Tie as tie
+use Rattle.filter.proofs.Lengths.{header-in-front}
+use Rattle.filter.proofs.run.Statement.{statement}
+use Rattle.filter.proofs.run.Tie as tie
 
-pub main-spec : {M : Type 1} → statement M
-main-spec =
+pub run-spec : {M : Type 1} → statement M
+run-spec =
     tie.close
     (tie.spec
     (λ c κs. search needs)
@@ -19,7 +19,7 @@ main-spec =
     (λ c. search needs)
     (λ c.
     let given = c .before .before .before .before .before in
-    header-in-front (given .before .before .large-buffer2 .result) _ (given .header .result) _ (c .before .before .n .given .1) (given .header .ensures .0) (given .header .ensures .1))
+    header-in-front (given .before .before .large-buffer2 .result) _ (given .header .result) _ (c .before .before .n .given .1) (given .before .before .before .before .args .program) (given .header .ensures .0) (given .header .ensures .1))
     (λ c κs. search needs)
     (λ c. search needs)
     (λ c. search needs)

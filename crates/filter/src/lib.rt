@@ -1,0 +1,133 @@
+// A program of lines: each line of standard input answered on standard output, behind the program's header.
+// Reads, feeds and writes; a failed read or write ends the run, with what was answered so far written out and a message on standard error.
+ghost use Prim.Native.Nat.{_≤_};
+ghost use lib.ListN.{length};
+ghost use Rattle.lines.specs.Appending.{mostInLine};
+use libc::STDERR_FILENO;
+use libc::STDIN_FILENO;
+use libc::STDOUT_FILENO;
+use lines::Program;
+use rules::WriteAnswer;
+use stream::Begun;
+
+// What follows a read: more of the input, its end, or a failure.
+enum Next {
+    More,
+    Ended,
+    Failed,
+}
+
+struct Passed {
+    state: Begun,
+    next: Next,
+}
+
+fn complain(program: Program, failed: &[u8]) {
+    match program {
+        Program::Drill => {
+            io::write_all(STDERR_FILENO, b"drill: cannot ");
+        }
+        Program::Spell => {
+            io::write_all(STDERR_FILENO, b"spell: cannot ");
+        }
+    }
+    io::write_all(STDERR_FILENO, failed);
+}
+
+fn written(program: Program, text: &[u8]) -> bool {
+    let all = io::write_all(STDOUT_FILENO, text);
+    if !all {
+        complain(program, b"write\n");
+    }
+    all
+}
+
+// The answers to a block, an output full at a time.
+fn answer(state: Begun, block: &[u8], out: &mut [u8]) -> Passed
+    requires { ⌜ mostInLine ≤ length (now out) ⌝ }
+{
+    let program = state.program;
+    let mut s = state;
+    let mut from = 0;
+    while from < block.len() {
+        let fed = stream::feed(s, block, from, out);
+        let n = fed.written;
+        if !written(program, &out[0..n]) {
+            return Passed {
+                state: s,
+                next: Next::Failed,
+            };
+        }
+        s = fed.state;
+        from = fed.taken;
+    }
+    Passed {
+        state: s,
+        next: Next::More,
+    }
+}
+
+// One read, and the answers to what came.
+fn pass(state: Begun, block: &mut [u8], out: &mut [u8]) -> Passed
+    requires { ⌜ mostInLine ≤ length (now out) ⌝ }
+{
+    let got = libc::read(STDIN_FILENO, block);
+    if got < 0 {
+        let program = state.program;
+        complain(program, b"read\n");
+        return Passed {
+            state: state,
+            next: Next::Failed,
+        };
+    }
+    if got == 0 {
+        return Passed {
+            state: state,
+            next: Next::Ended,
+        };
+    }
+    let n = io::count(got, block);
+    answer(state, &block[..n], out)
+}
+
+// A last line without a newline.
+fn end(state: Begun, out: &mut [u8]) {
+    let program = state.program;
+    let WriteAnswer::Wrote(n) = stream::finish(state, out) else {
+        return;
+    };
+    written(program, &out[0..n]);
+}
+
+// Nothing says that the input ends, so the loop counts its turns down, from a number that no run uses up.
+fn passes(program: Program, block: &mut [u8], out: &mut [u8])
+    requires { ⌜ mostInLine ≤ length (now out) ⌝ }
+{
+    let mut state = Begun::new(program);
+    let mut turns = u64::MAX;
+    while turns > 0 {
+        let read = pass(state, block, out);
+        let next = read.next;
+        if let Next::Ended = next {
+            end(read.state, out);
+            return;
+        }
+        if let Next::Failed = next {
+            return;
+        }
+        state = read.state;
+        turns -= 1;
+    }
+}
+
+// The whole run of a program. No contract can say what is read and written.
+pub fn run(program: Program) {
+    let mut block = io::large_buffer();
+    let mut out = io::large_buffer();
+    let WriteAnswer::Wrote(n) = stream::header(program, &mut out) else {
+        return;
+    };
+    if written(program, &out[0..n]) {
+        passes(program, &mut block, &mut out);
+    }
+}

@@ -1,0 +1,21 @@
+-- What each program answers: to a line, and in front of all lines.
+use mathlib.Core.List.{List, []}
+use Prim.Native.Nat.{ℕ}
+use Rattle.rules.specs.WhatComesBack.{Written}
+use Rattle.rules.specs.Drill.{header, answerLine}
+use Rattle.rules.specs.SpellProgram.{spellLine}
+use Rattle.output.specs.Front.{put}
+use Rattle.lines.specs.declared.Program.{Program}
+use Rattle.lines.specs.declared.Program.the-variants.{Drill, Spell}
+
+abbrev pub answerOf : Program → List ℕ → List ℕ
+answerOf Drill line = answerLine line
+answerOf Spell line = spellLine line
+
+abbrev pub headerOf : Program → List ℕ
+headerOf Drill = header
+headerOf Spell = []
+
+-- the entry: a line and a lent output
+abbrev pub lineAnswer : Program → List ℕ → List ℕ → Written
+lineAnswer p line out = put (answerOf p line) out

@@ -1,14 +1,16 @@
 //! Makes drill lines or speller lines from a seed, runs a program on them, and compares every
-//! byte of its answers with what the second reading of document 01 (rules.rs) says; or answers
+//! byte of its answers with what the second reading of document 01 (the modules beside this file) says; or answers
 //! the lines of standard input itself, with the columns of the program cards.
 //!
 //!     second drill PROGRAM LINES SEED
 //!     second spell PROGRAM LINES SEED
 //!     second cards < LINES
 
-mod rules;
+mod lines;
+mod syllable;
+mod typing;
 
-use rules::{Letter, Mode};
+use syllable::{Letter, Mode};
 use std::io::{Read, Write};
 use std::process::{Command, ExitCode, Stdio};
 
@@ -40,7 +42,7 @@ fn syllable(dice: &mut Dice, forms: &[Vec<Letter>]) -> (Vec<Letter>, usize) {
     }
     loop {
         let tone = dice.roll(6);
-        if rules::verdict(&w, tone) == 0 {
+        if syllable::verdict(&w, tone) == 0 {
             return (w, tone);
         }
     }
@@ -51,7 +53,7 @@ fn bare_and_marks(mode: Mode, w: &[Letter], tone: usize) -> (Vec<u8>, Vec<u8>) {
     let bare: Vec<u8> = w.iter().map(|x| if x.capital { x.base.to_ascii_uppercase() } else { x.base } as u8).collect();
     let mut letters = bare.iter().peekable();
     let mut marks = vec![];
-    for key in rules::standard_keys(mode, w, tone).bytes() {
+    for key in lines::standard_keys(mode, w, tone).bytes() {
         if letters.peek() == Some(&&key) {
             letters.next();
         } else {
@@ -109,7 +111,7 @@ fn drill_keys(dice: &mut Dice, mode: Mode, forms: &[Vec<Letter>]) -> Vec<u8> {
                 keys.insert(at, key);
             }
         }
-        4 => keys = rules::standard_keys(mode, &w, tone).into_bytes(),
+        4 => keys = lines::standard_keys(mode, &w, tone).into_bytes(),
         // near misses
         5 | 6 => {
             keys.extend(marks);
@@ -132,7 +134,7 @@ fn drill_keys(dice: &mut Dice, mode: Mode, forms: &[Vec<Letter>]) -> Vec<u8> {
 
 fn spell_text(dice: &mut Dice, forms: &[Vec<Letter>]) -> Vec<u8> {
     let (w, tone) = syllable(dice, forms);
-    let text = rules::shown(&w, tone);
+    let text = syllable::shown(&w, tone);
     let mut bytes = text.clone().into_bytes();
     match dice.roll(10) {
         0..=3 => {}
@@ -146,7 +148,7 @@ fn spell_text(dice: &mut Dice, forms: &[Vec<Letter>]) -> Vec<u8> {
         }
         // cut, doubled, foreign or random bytes
         6 | 7 => slip(dice, &mut bytes, &[0xC3, 0xE1, 0xBB, 0x80, 0xC0, 0xF0, b'a', b'1', b' ', 0xBF, 0xC4, 0x91]),
-        8 => bytes = rules::shown(&dice.of(forms).clone(), dice.roll(6)).repeat(1 + dice.roll(40)).into_bytes(),
+        8 => bytes = syllable::shown(&dice.of(forms).clone(), dice.roll(6)).repeat(1 + dice.roll(40)).into_bytes(),
         _ => bytes = any_bytes(dice, 110),
     }
     bytes
@@ -183,7 +185,7 @@ fn answer_cards() -> std::io::Result<()> {
     std::io::stdin().read_to_end(&mut input)?;
     let mut answers = vec![];
     for line in input.split_inclusive(|&b| b == b'\n') {
-        answers.extend(rules::card_line(line.strip_suffix(b"\n").unwrap_or(line)));
+        answers.extend(lines::card_line(line.strip_suffix(b"\n").unwrap_or(line)));
         answers.push(b'\n');
     }
     std::io::stdout().write_all(&answers)
@@ -207,7 +209,7 @@ fn main() -> ExitCode {
     let spell = what == "spell";
     let count: usize = count.parse().expect("a number of lines");
     let seed: u64 = seed.parse().expect("a seed");
-    let forms = rules::all_forms();
+    let forms = syllable::all_forms();
     let mut dice = Dice(seed.wrapping_mul(0x9E37_79B9_7F4A_7C15) | 1);
     let lines: Vec<Vec<u8>> = (0..count).map(|_| line(&mut dice, spell, &forms)).collect();
     let mut input = lines.join(&b'\n');
@@ -227,7 +229,7 @@ fn main() -> ExitCode {
     let mut answers = rest.split_inclusive(|&b| b == b'\n');
     let mut wrong = 0;
     for line in &lines {
-        let mut expected = if spell { rules::spell_line(line) } else { rules::drill_line(line) };
+        let mut expected = if spell { lines::spell_line(line) } else { lines::drill_line(line) };
         expected.push(b'\n');
         let got = answers.next().unwrap_or(b"");
         if got != expected {

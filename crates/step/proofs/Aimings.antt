@@ -1,5 +1,5 @@
 -- The places that the targets are found at, in the front part of an array: they are those of the rules, and lie within the word.
-use mathlib.Core.Path.{_≡_, ap, _∙_}
+use mathlib.Core.Path.{_≡_, sym, ap, subst, _∙_}
 use mathlib.Core.Bool.{Bool, false}
 use mathlib.Core.List.{List, map}
 use Prim.Native.Nat.{ℕ, _+_, _-_, _≤_, _<_}
@@ -8,24 +8,26 @@ use lib.Dec.{lit<}
 use lib.ListN.{length, take, drop, length-map, length-take}
 use Rattle.rules.specs.Letters.{Letters, horn}
 use Rattle.rules.specs.TheWord.{letter}
-use Rattle.rules.specs.KeyRoles.{last, horned}
+use Rattle.rules.specs.KeyRoles.{Found, asked, last, horned}
 use Rattle.rules.specs.declared.Place.{Place}
 use Rattle.rules.specs.declared.Place.the-variants.{At, Nowhere}
 use Rattle.targets.specs.Places.{lastPlace, pairPlace, singlePlace}
 use Rattle.targets.specs.Aims.{oneAt, pairAt}
 use Rattle.targets.proofs.Finds.{last-is, horned-pair, horned-single}
 use Rattle.targets.proofs.Within.{last-within, single-within, pair-within}
-use Rattle.step.specs.Held.{Given, Aimed}
+use Rattle.step.specs.declared.Edit.{Edit}
+use Rattle.step.specs.Held.{Given, Aimed, Edits}
+use Rattle.step.proofs.Arrays.{is-front}
 
--- the part from 0 on is the front
 abbrev part : List ℕ → ℕ → Letters
 part l n = map letter (take (n - 0) (drop 0 l))
 
 abbrev front : List ℕ → ℕ → Letters
 front l n = map letter (take n l)
 
-is-front : (l : List ℕ) (n : ℕ) → front l n ≡ part l n
-is-front l n = let e : n ≡ n - 0 = omega arith in ap (front l) e
+-- an edit by what is found
+pub as-found : (kind : ℕ) {l : List ℕ} {r : Edit} {m : List ℕ} {f g : Found} → f ≡ g → Edits (asked kind g) l r m → Edits (asked kind f) l r m
+as-found kind {l} {r} {m} e p = subst (λ (x : Found). Edits (asked kind x) l r m) (sym e) p
 
 count-of : (l : List ℕ) (n : ℕ) → length (front l n) ≤ n
 count-of l n = simp (length-map, length-take) (omega arith)
@@ -38,7 +40,7 @@ module _ (want : ℕ → Bool) (l : List ℕ) (n kind : ℕ) where
   last-at e = last-is want kind (front l n) ∙ ap (λ (p : Place). oneAt kind p (front l n)) (in-front e)
 
   pub last-aimed : {i : ℕ} → Given l n → kind < 8 → lastPlace want (part l n) ≡ At i → Aimed l n i kind
-  last-aimed g k e = record { fits = g .fits; canonical = g .canonical; inside = omega (arith, last-within want (front l n) (in-front e), count-of l n); shape = k }
+  last-aimed g k e = record { given = g; inside = omega (arith, last-within want (front l n) (in-front e), count-of l n); shape = k }
 
 module _ (l : List ℕ) (n : ℕ) where
   pair-in-front : {p : Place} → pairPlace false (part l n) ≡ p → pairPlace false (front l n) ≡ p
@@ -51,10 +53,10 @@ module _ (l : List ℕ) (n : ℕ) where
   horn-pair e = horned-pair (front l n) (pair-in-front e)
 
   pub pair-aimed : {i : ℕ} → Given l n → pairPlace false (part l n) ≡ At i → Aimed l n (i + 1) horn
-  pair-aimed {i} g e = record { fits = g .fits; canonical = g .canonical; inside = omega (arith, pair-within false (front l n) (pair-in-front e), count-of l n); shape = lit< tt }
+  pair-aimed {i} g e = record { given = g; inside = omega (arith, pair-within false (front l n) (pair-in-front e), count-of l n); shape = lit< tt }
 
   pub horn-single : {p : Place} → pairPlace false (part l n) ≡ Nowhere → singlePlace false (part l n) ≡ p → horned (front l n) ≡ oneAt horn p (front l n)
   horn-single e f = horned-single (front l n) (pair-in-front e) (single-in-front f)
 
   pub single-aimed : {i : ℕ} → Given l n → singlePlace false (part l n) ≡ At i → Aimed l n i horn
-  single-aimed g e = record { fits = g .fits; canonical = g .canonical; inside = omega (arith, single-within false (front l n) (single-in-front e), count-of l n); shape = lit< tt }
+  single-aimed g e = record { given = g; inside = omega (arith, single-within false (front l n) (single-in-front e), count-of l n); shape = lit< tt }

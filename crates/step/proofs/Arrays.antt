@@ -1,7 +1,7 @@
 -- A letter stored in the array is the letter of the word: at a place with another shape, or after the last.
 use mathlib.Core.Path.{_≡_, refl, sym, ap, ap₂, _∙_}
 use mathlib.Core.List.{List, [], _∷_, _++_, map, append-assoc, map-append, head-eq-of-cons-eq, tail-eq-of-cons-eq}
-use Prim.Native.Nat.{ℕ, zero, suc, _%_, _≤_, _<_}
+use Prim.Native.Nat.{ℕ, zero, suc, _-_, _%_, _≤_, _<_}
 use native.Mathlib.Numerals.{add-one}
 use native.Mathlib.Omega.{arith}
 use lib.ListN.{length, take, drop, set, getD, length-map, length-append, take-append-drop}
@@ -12,6 +12,14 @@ use Rattle.rules.specs.KeyRoles.{shaped}
 use Rattle.rules.proofs.Numbers.{of-number, AllFine, letters-numbers}
 use Rattle.step.specs.Held.{Canonical}
 use Rattle.targets.specs.Aims.{reshape, shapeAt}
+
+-- the numbers with another shape at a place
+abbrev pub reshapedAt : List ℕ → ℕ → ℕ → List ℕ
+reshapedAt l i sh = set l i (number (shaped sh (letter (getD l i 0))))
+
+-- the part from 0 on is the front
+pub is-front : (l : List ℕ) (n : ℕ) → map letter (take n l) ≡ map letter (take (n - 0) (drop 0 l))
+is-front l n = let e : n ≡ n - 0 = omega arith in ap (λ (k : ℕ). map letter (take k l)) e
 
 first-canonical : (n : ℕ) (ns : List ℕ) → Canonical (n ∷ ns) → number (letter n) ≡ n
 first-canonical n ns c = head-eq-of-cons-eq c
@@ -41,7 +49,7 @@ shape-at (n ∷ ns) zero h = refl
 shape-at (n ∷ ns) (suc i) h = shape-at ns i (omega arith)
 
 -- the number of a letter in another shape is read as that letter
-pub reshaped-letter : (n sh : ℕ) → sh < 8 → letter (number (shaped sh (letter n))) ≡ shaped sh (letter n)
+reshaped-letter : (n sh : ℕ) → sh < 8 → letter (number (shaped sh (letter n))) ≡ shaped sh (letter n)
 reshaped-letter n sh h = of-number (n % 256) sh (letter n .capital) (omega arith) h
 
 module _ (l : List ℕ) (n : ℕ) (fits : n ≤ length l) (c : Canonical (take n l)) where
@@ -51,7 +59,7 @@ module _ (l : List ℕ) (n : ℕ) (fits : n ≤ length l) (c : Canonical (take n
   front : (ms : List ℕ) → length ms ≡ n → atFront ms l ≡ ms ++ drop n l
   front ms e = ap (λ (k : ℕ). ms ++ drop k l) e
 
-  pub stored : (i sh : ℕ) → i < n → set l i (number (shaped sh (letter (getD l i 0)))) ≡ atFront (map number (reshape i sh word)) l
+  pub stored : (i sh : ℕ) → i < n → reshapedAt l i sh ≡ atFront (map number (reshape i sh word)) l
   stored i sh h =
       let v = number (shaped sh (letter (getD l i 0))) in
       let len : length (take n l) ≡ n = length-take-le n l fits in
@@ -60,14 +68,15 @@ module _ (l : List ℕ) (n : ℕ) (fits : n ≤ length l) (c : Canonical (take n
       (ap (λ (k : ℕ). set (take n l) i (number (shaped sh (letter k)))) (sym (getD-take n l i 0 h)) ∙ sym (number-reshape (take n l) i sh c)) ∙
       sym (front (map number (reshape i sh word)) (length-map (reshape i sh word) number ∙ length-reshape i sh word ∙ length-map (take n l) letter ∙ len))
 
-  pub read-stored : (i sh v : ℕ) → i < n → letter v ≡ shaped sh (letter (getD l i 0)) → map letter (take n (set l i v)) ≡ reshape i sh word
-  read-stored i sh v h e =
-      ap (map letter) (take-set-lt n l i v h) ∙ letter-reshape (take n l) i sh v (e ∙ ap (λ (k : ℕ). shaped sh (letter k)) (sym (getD-take n l i 0 h)))
+  pub read-stored : (i sh : ℕ) → i < n → sh < 8 → map letter (take n (reshapedAt l i sh)) ≡ reshape i sh word
+  read-stored i sh h s =
+      let v = number (shaped sh (letter (getD l i 0))) in
+      ap (map letter) (take-set-lt n l i v h) ∙ letter-reshape (take n l) i sh v (reshaped-letter (getD l i 0) sh s ∙ ap (λ (k : ℕ). shaped sh (letter k)) (sym (getD-take n l i 0 h)))
 
-  pub still-canonical : (i sh : ℕ) → i < n → sh < 8 → Canonical (take n (set l i (number (shaped sh (letter (getD l i 0))))))
+  pub still-canonical : (i sh : ℕ) → i < n → sh < 8 → Canonical (take n (reshapedAt l i sh))
   still-canonical i sh h s =
       let v = number (shaped sh (letter (getD l i 0))) in
-      ap (map number) (read-stored i sh v h (reshaped-letter (getD l i 0) sh s)) ∙ number-reshape (take n l) i sh c ∙
+      ap (map number) (read-stored i sh h s) ∙ number-reshape (take n l) i sh c ∙
       ap (λ (k : ℕ). set (take n l) i (number (shaped sh (letter k)))) (getD-take n l i 0 h) ∙ sym (take-set-lt n l i v h)
 
   pub added : (x : Letter) → n < length l → set l n (number x) ≡ atFront (map number (word ++ (x ∷ []))) l
@@ -79,7 +88,7 @@ module _ (l : List ℕ) (n : ℕ) (fits : n ≤ length l) (c : Canonical (take n
       sym (ap (λ (m : List ℕ). atFront m l) e ∙ ap (λ (j : ℕ). (take n l ++ (number x ∷ [])) ++ drop j l) k)
 
 -- letters at the front of an array are read again
-pub front-numbers : (l : List ℕ) (n : ℕ) (ws : Letters) → length ws ≡ n → take n (atFront (map number ws) l) ≡ map number ws
+front-numbers : (l : List ℕ) (n : ℕ) (ws : Letters) → length ws ≡ n → take n (atFront (map number ws) l) ≡ map number ws
 front-numbers l n ws e = take-at (map number ws) (drop (length (map number ws)) l) n (length-map ws number ∙ e)
 
 pub front-letters : {mode : ℕ} (l : List ℕ) (n : ℕ) (ws : Letters) → AllFine mode ws → length ws ≡ n → map letter (take n (atFront (map number ws) l)) ≡ ws

@@ -1,101 +1,138 @@
--- What the functions on a whole record leave is the record with the state that the rule says.
-use mathlib.Core.Path.{_≡_, refl, sym, ap, _∙_}
-use mathlib.Core.Bool.{true}
+-- What the functions leave in the array and beside it is the state that the rule says.
+use mathlib.Core.Path.{_≡_, refl, sym, ap, subst, _∙_}
+use mathlib.Core.Bool.{Bool, true}
 use mathlib.Core.Logic.{_⊎_, inl, inr}
 use mathlib.Core.List.{List, [], _∷_, _++_, map}
-use Prim.Native.Nat.{ℕ, _+_}
+use Prim.Native.Nat.{ℕ, _+_, _≤_}
 use native.Mathlib.Omega.{arith}
-use lib.ListN.{length, take, drop, set, length-append, length-map, take-append-drop}
+use lib.ListN.{length, take, drop, set, length-append, length-drop, length-map, take-append-drop}
 use lib.Seq.{length-take-le}
-use Rattle.rules.specs.Letters.{Letter, Letters}
-use Rattle.rules.specs.TheWord.{State, mostKeys, letter, number, atFront, wordOf}
-use Rattle.rules.specs.KeyRoles as Rules
-use Rattle.rules.specs.KeyRoles.{append, undo, withTone}
-use Rattle.rules.proofs.Numbers.{AllFine}
-use Rattle.rules.proofs.Records.{front-front}
-use Rattle.rules.specs.declared.Word.{Word}
-use Rattle.rules.specs.declared.Outcome.{Outcome}
-use Rattle.rules.specs.declared.Outcome.the-variants.{Acted, Undone, Appended}
-use Rattle.rules.proofs.Outcome.{the-type}
 use types.Run.{OneOf}
 use denote.Enum.Declared.{tagOf}
-use Rattle.step.specs.Held.{Ready, withState, toned, countedIn}
-use Rattle.step.proofs.Arrays.{added, front-letters}
+use Rattle.rules.specs.Letters.{Letter, Letters}
+use Rattle.rules.specs.TheWord.{State, Done, acted, undone, appended, stateOf, letter, number, atFront}
+use Rattle.rules.specs.KeyRoles as Rules
+use Rattle.rules.specs.KeyRoles.{append, close, editDoes}
+use Rattle.rules.specs.declared.Act.{Act}
+use Rattle.rules.specs.declared.Outcome.{Outcome}
+use Rattle.rules.specs.declared.Outcome.the-variants.{Acted, Undone, Appended}
+use Rattle.rules.proofs.Edits.{Alike, Good, good-none, good-off, good, length-alike}
+use Rattle.rules.proofs.Numbers.{AllFine, fine-alike}
+use Rattle.rules.proofs.Records.{front-front}
+use Rattle.rules.proofs.Outcome as Outcomes
+use Rattle.step.specs.declared.Edit.{Edit}
+use Rattle.step.specs.declared.Edit.the-variants.{Nothing, Off, Change}
+use Rattle.step.specs.declared.Rest.{Rest}
+use Rattle.step.specs.declared.Counts.{Counts}
+use Rattle.step.specs.declared.Done as Answer
+use Rattle.step.specs.Held.{Given, Room, Leaves, Does, Edits, kindOf, editedIn, stateIn, afterEdit, withTone, countedIn}
+use Rattle.step.proofs.Edit as Kinds
+use Rattle.step.proofs.Arrays.{added, front-letters, front-canonical}
 
--- the record with another array of letters, and another count of them
-abbrev pub withLetters : Word → List ℕ → ℕ → Word
-withLetters w l n =
-    record {
-      mode = w .mode;
-      letters = l;
-      count = n;
-      tone = w .tone;
-      closed = w .closed;
-      keys = w .keys;
-      typed = w .typed;
-      acted = w .acted;
-      undone = w .undone;
-      appended = w .appended;
-    }
+-- the same letters, written again
+module _ (l : List ℕ) (rest : Rest) (given : Given l (rest .count)) where
+  there : rest .count ≤ length l
+  there = omega (arith, given .whole, given .fits)
 
--- the record with its mark closed
-abbrev pub closed : Word → Word
-closed w =
-    record {
-      mode = w .mode;
-      letters = w .letters;
-      count = w .count;
-      tone = w .tone;
-      closed = true;
-      keys = w .keys;
-      typed = w .typed;
-      acted = w .acted;
-      undone = w .undone;
-      appended = w .appended;
-    }
+  letters-read : length (map letter (take (rest .count) l)) ≡ rest .count
+  letters-read = length-map (take (rest .count) l) letter ∙ length-take-le (rest .count) l there
 
--- another tone leaves it ready
-pub still-ready : (w : Word) (t : ℕ) → Ready w → Ready (toned w t)
-still-ready w t r = record { room = r .room; fewer = r .fewer; canonical = r .canonical; fine = r .fine }
-
-module _ (w : Word) (ready : Ready w) (whole : length (w .letters) ≡ mostKeys) where
-  pub letters-read : length (map letter (take (w .count) (w .letters))) ≡ w .count
-  letters-read = length-map (take (w .count) (w .letters)) letter ∙ length-take-le (w .count) (w .letters) (omega (arith, whole, ready .room, ready .fewer))
-
-  pub appends : (x : Letter) (r : ℕ) → r ≡ number x → withLetters w (set (w .letters) (w .count) r) (w .count + 1) ≡ withState w (append (wordOf w .state) x)
-  appends x r e =
-      let l = ap (set (w .letters) (w .count)) e ∙ added (w .letters) (w .count) (omega (arith, whole, ready .room, ready .fewer)) (ready .canonical) x (omega (arith, whole, ready .room, ready .fewer)) in
-      let n : w .count + 1 ≡ length (wordOf w .state .letters ++ (x ∷ [])) = simp length-append (omega (arith, letters-read)) in
-      λ i. withLetters w (l i) (n i)
-
-  -- the same letters, written again
-  same-array : atFront (map number (map letter (take (w .count) (w .letters)))) (w .letters) ≡ w .letters
+  same-array : atFront (map number (map letter (take (rest .count) l))) l ≡ l
   same-array =
-      ap (λ (m : List ℕ). atFront m (w .letters)) (ready .canonical) ∙
-      ap (λ (k : ℕ). take (w .count) (w .letters) ++ drop k (w .letters)) (length-take-le (w .count) (w .letters) (omega (arith, whole, ready .room, ready .fewer))) ∙
-      take-append-drop (w .count) (w .letters)
+      ap (λ (m : List ℕ). atFront m l) (given .canonical) ∙ ap (λ (k : ℕ). take (rest .count) l ++ drop k l) (length-take-le (rest .count) l there) ∙
+      take-append-drop (rest .count) l
 
-  pub tones : (t : ℕ) → toned w t ≡ withState w (withTone (wordOf w .state) t)
-  tones t = λ i. toned (withLetters w (sym same-array i) (sym letters-read i)) t
+  pub same : Leaves (stateIn l rest) l rest l
+  same = record { beside = λ i. record { count = sym letters-read i; tone = rest .tone; closed = rest .closed }; left = sym same-array }
 
-  -- letters of the same number, in the array
-  pub changes : (ws : Letters) → length ws ≡ w .count → withLetters w (atFront (map number ws) (w .letters)) (w .count) ≡ withState w (Rules.withLetters (wordOf w .state) ws)
-  changes ws e = λ i. withLetters w (atFront (map number ws) (w .letters)) (sym e i)
+  pub tones : (t : ℕ) {r : Rest} → r ≡ withTone rest t → Leaves (Rules.withTone (stateIn l rest) t) l r l
+  tones t e = record { beside = e ∙ ap (λ (x : Rest). withTone x t) (same .beside); left = same .left }
 
-  pub undoes : (ws : Letters) (x : Letter) → AllFine (w .mode) ws → length ws ≡ w .count →
-      withState (withLetters w (atFront (map number ws) (w .letters)) (w .count)) (undo (wordOf (withLetters w (atFront (map number ws) (w .letters)) (w .count)) .state) x) ≡
-      withState w (undo (Rules.withLetters (wordOf w .state) ws) x)
-  undoes ws x f e =
-      let next : State → Word = λ s. withState (withLetters w (atFront (map number ws) (w .letters)) (w .count)) s in
-      ap (λ (us : Letters). next (undo (Rules.withLetters (wordOf w .state) us) x)) (front-letters (w .letters) (w .count) ws f e) ∙
-      (λ i. withLetters (closed w) (front-front (map number (ws ++ (x ∷ []))) (map number ws) (w .letters) (simp (length-map, length-append) (omega arith)) i) (length (ws ++ (x ∷ []))))
+-- a letter more
+module _ (l : List ℕ) (rest : Rest) (room : Room l (rest .count)) where
+  pub appends : (x : Letter) (v : ℕ) → v ≡ number x →
+      Leaves (append (stateIn l rest) x) l (record { count = rest .count + 1; tone = rest .tone; closed = rest .closed }) (set l (rest .count) v)
+  appends x v e =
+      let n : rest .count + 1 ≡ length (stateIn l rest .letters ++ (x ∷ [])) = simp length-append (omega (arith, letters-read l rest (room .given))) in
+      record {
+        beside = λ i. record { count = n i; tone = rest .tone; closed = rest .closed };
+        left =
+            ap (set l (rest .count)) e ∙
+            added l (rest .count) (there l rest (room .given)) (room .given .canonical) x (omega (arith, room .given .whole, room .room));
+      }
+
+-- what is left, with its outcome
+pub as-acted : (a : Act) {s : State} {l : List ℕ} {r : Rest} {m : List ℕ} → Leaves s l r m → Does (acted a s) l (record { outcome = Acted a; rest = r }) m
+as-acted a p = record { told = ap (λ (x : Rest). record { outcome = Acted a; rest = x }) (p .beside); left = p .left }
+
+pub as-appended : {s : State} {l : List ℕ} {r : Rest} {m : List ℕ} → Leaves s l r m → Does (appended s) l (record { outcome = Appended; rest = r }) m
+as-appended p = record { told = ap (λ (x : Rest). record { outcome = Appended; rest = x }) (p .beside); left = p .left }
+
+abbrev closed : Rest → Rest
+closed r = record { count = r .count; tone = r .tone; closed = true }
+
+pub as-undone : {s : State} {l : List ℕ} {r : Rest} {m : List ℕ} → Leaves s l r m → Does (undone (close s)) l (record { outcome = Undone; rest = closed r }) m
+as-undone p = record { told = ap (λ (x : Rest). record { outcome = Undone; rest = closed x }) (p .beside); left = p .left }
+
+pub as-ruled : {d e : Done} {l : List ℕ} {r : Answer.Done} {m : List ℕ} → d ≡ e → Does e l r m → Does d l r m
+as-ruled {d} {e} {l} {r} {m} p q = subst (λ (x : Done). Does x l r m) (sym p) q
+
+-- the letters after an edit, and what the key then does
+module _ (mode : ℕ) (l : List ℕ) (rest : Rest) (room : Room l (rest .count)) (fine : AllFine mode (stateIn l rest .letters)) where
+  module _ (ws : Letters) {changed : ℕ → Bool} (a : Alike changed (stateIn l rest .letters) ws) where
+    as-many : length ws ≡ rest .count
+    as-many = sym (length-alike a) ∙ letters-read l rest (room .given)
+
+    room-for : Room (atFront (map number ws) l) (rest .count)
+    room-for =
+        record {
+          given =
+              record {
+                whole = simp (length-append, length-map, length-drop) (omega (arith, as-many, room .given .whole, room .room));
+                fits = room .given .fits;
+                canonical = front-canonical l (rest .count) ws (fine-alike a fine) as-many;
+              };
+          room = room .room;
+        }
+
+    state-then : stateIn (atFront (map number ws) l) rest ≡ Rules.withLetters (stateIn l rest) ws
+    state-then = ap (Rules.withLetters (stateIn l rest)) (front-letters l (rest .count) ws (fine-alike a fine) as-many)
+
+    over : (f : State → Done) {r : Answer.Done} {m : List ℕ} → length ws ≤ length (stateOf (f (Rules.withLetters (stateIn l rest) ws)) .letters) →
+        Does (f (stateIn (atFront (map number ws) l) rest)) (atFront (map number ws) l) r m → Does (f (Rules.withLetters (stateIn l rest) ws)) l r m
+    over f {r} {m} h p =
+        let q = subst (λ (s : State). Does (f s) (atFront (map number ws) l) r m) state-then p in
+        record { told = q .told; left = q .left ∙ front-front (map number (stateOf (f (Rules.withLetters (stateIn l rest) ws)) .letters)) (map number ws) l (simp length-map h) }
+
+  pub room-after : {d : Rules.Edit} {e : Edit} {m : List ℕ} → Good (stateIn l rest .letters) d → Edits d l e m → Room m (rest .count)
+  room-after g p = subst (λ (k : List ℕ). Room k (rest .count)) (sym (p .left)) (go g)
+    where
+      go : {d : Rules.Edit} → Good (stateIn l rest .letters) d → Room (editedIn l d) (rest .count)
+      go good-none = room
+      go (good-off c {w = ws} a) = room-for ws a
+      go (good c {w = ws} a q h) = room-for ws a
+
+  pub edit-then : {d : Rules.Edit} {e : Edit} {m m′ : List ℕ} {r : Answer.Done} (k : Letter) → Good (stateIn l rest .letters) d → Edits d l e m → Does (afterEdit e (stateIn m rest) k) m r m′ → Does (editDoes d (stateIn l rest) k) l r m′
+  edit-then {d = d′} {m = m} {m′ = m′} {r = r} k g p q =
+      go g (subst (λ (x : List ℕ). Does (afterEdit (kindOf d′) (stateIn x rest) k) x r m′) (p .left) (subst (λ (x : Edit). Does (afterEdit x (stateIn m rest) k) m r m′) (p .told) q))
+    where
+      go : {d : Rules.Edit} → Good (stateIn l rest .letters) d → Does (afterEdit (kindOf d) (stateIn (editedIn l d) rest) k) (editedIn l d) r m′ → Does (editDoes d (stateIn l rest) k) l r m′
+      go good-none x = x
+      go (good-off c {w = ws} a) x = over ws a (λ s. undone (Rules.undo s k)) (simp length-append (omega arith)) x
+      go (good c {a = act} {w = ws} a q h) x = over ws a (acted act) (omega arith) x
 
 two-no : {m n k : ℕ} → (m ≡ n → ⊥) → (m ≡ k → ⊥) → (m ≡ n) ⊎ (m ≡ k) → ⊥
 two-no f g (inl e) = f e
 two-no f g (inr e) = g e
 
+-- an edit that neither takes a mark off nor changes the letters is none
+pub no-edit : (e : Edit) → OneOf (0 ∷ 2 ∷ []) (tagOf Kinds.the-type e) → OneOf (0 ∷ 1 ∷ []) (tagOf Kinds.the-type e) → e ≡ Nothing
+no-edit Nothing p q = refl
+no-edit Off p q = absurd (two-no (λ e. omega arith) (λ e. omega arith) p)
+no-edit (Change a) p q = absurd (two-no (λ e. omega arith) (λ e. omega arith) q)
+
 -- an outcome that is neither acted nor undone is appended
-pub neither : (w : Word) (k : ℕ) (o : Outcome) → OneOf (1 ∷ 2 ∷ []) (tagOf the-type o) → OneOf (0 ∷ 2 ∷ []) (tagOf the-type o) → countedIn w k Appended ≡ countedIn w k o
-neither w k (Acted a) p q = absurd (two-no (λ e. omega arith) (λ e. omega arith) p)
-neither w k Undone p q = absurd (two-no (λ e. omega arith) (λ e. omega arith) q)
-neither w k Appended p q = refl
+pub neither : (n : Counts) (o : Outcome) → OneOf (1 ∷ 2 ∷ []) (tagOf Outcomes.the-type o) → OneOf (0 ∷ 2 ∷ []) (tagOf Outcomes.the-type o) → countedIn n Appended ≡ countedIn n o
+neither n (Acted a) p q = absurd (two-no (λ e. omega arith) (λ e. omega arith) p)
+neither n Undone p q = absurd (two-no (λ e. omega arith) (λ e. omega arith) q)
+neither n Appended p q = refl

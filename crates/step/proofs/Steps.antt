@@ -1,64 +1,37 @@
 -- The step's answer by its tests; and a key kept and counted is the word with the key typed.
-use mathlib.Core.Path.{_≡_, sym, ap, subst, _∙_}
+use mathlib.Core.Path.{_≡_, sym, ap, _∙_}
 use mathlib.Core.Bool.{Bool, true, false}
-use mathlib.Core.List.{List, [], _∷_, _++_, map}
+use mathlib.Core.List.{List, [], _∷_, _++_, append-assoc}
 use Prim.Native.Nat.{ℕ, suc, _+_, _≤_, _<_}
 use native.Mathlib.Numerals.{add-one}
 use native.Mathlib.Omega.{arith}
 use lib.ListN.{length, take, drop, set, length-append}
 use lib.Seq.{length-take-le, set-split}
-use mathlib.Core.List.{append-assoc}
 use borrow.Author.Tests.{lt-ltb, le-ltb}
-use Rattle.rules.specs.Letters.{Letters}
-use Rattle.rules.specs.TheWord.{Done, stateOf, outcomeOf, mostKeys, letter, number, atFront, wordOf, holding, counted}
-use Rattle.rules.specs.KeyRoles as Rules
+use Rattle.rules.specs.TheWord.{Done, mostKeys, atFront, wordOf}
 use Rattle.rules.specs.KeyRoles.{isKey, keyDoes}
 use Rattle.rules.specs.Refusals.{placeOfByte, outOfRange, refusal}
 use Rattle.rules.specs.WhatComesBack.{step}
 use Rattle.rules.specs.declared.Word.{Word}
-use Rattle.rules.proofs.Edits.{Alike, Good, good-none, good-off, good, length-alike}
-use Rattle.rules.proofs.Numbers.{AllFine, numbers-letters, fine-letters, fine-alike}
+use Rattle.rules.specs.declared.Step.{Step}
+use Rattle.rules.specs.declared.StepAnswer.the-variants.{Did}
+use Rattle.rules.proofs.Numbers.{numbers-letters, fine-letters}
 use Rattle.rules.proofs.Range.{InRange}
-use Rattle.step.specs.Held.{Canonical, Ready, Edits, editedOf, withState, countedIn, didOf, refusedOf}
-use Rattle.step.proofs.States.{letters-read}
-use Rattle.step.proofs.Arrays.{front-letters, front-canonical}
-use Rattle.step.specs.declared.Edited.{Edited}
-
--- the record with other keys
-abbrev withKeys : Word → List ℕ → ℕ → Word
-withKeys w ks n =
-    record {
-      mode = w .mode;
-      letters = w .letters;
-      count = w .count;
-      tone = w .tone;
-      closed = w .closed;
-      keys = ks;
-      typed = n;
-      acted = w .acted;
-      undone = w .undone;
-      appended = w .appended;
-    }
+use Rattle.step.specs.declared.Counts.{Counts}
+use Rattle.step.specs.declared.Done as Answer
+use Rattle.step.specs.Held.{Ready, Room, Does, countedIn, didOf, refusedOf}
 
 -- a record in range with room for a key is ready for it
 pub ready : (w : Word) → InRange w → w .typed < mostKeys → Ready w
 ready w r h = record { room = h; fewer = r .fewer; canonical = numbers-letters (w .mode) (take (w .count) (w .letters)) (r .letters .allowed); fine = fine-letters (take (w .count) (w .letters)) (r .letters) }
 
--- the letters of an edit are letters of the mode
-module _ (w : Word) (r : Ready w) (whole : length (w .letters) ≡ mostKeys) where
-  in-front : (e : Edited) (ws : Letters) {changed : ℕ → Bool} → e .letters ≡ atFront (map number ws) (w .letters) → Alike changed (wordOf w .state .letters) ws → Edits w e
-  in-front e ws p a =
-      let f = fine-alike a (r .fine) in
-      let n : length ws ≡ w .count = sym (length-alike a) ∙ letters-read w r whole in
-      record {
-        canonical = subst (λ (l : List ℕ). Canonical (take (w .count) l)) (sym p) (front-canonical (w .letters) (w .count) ws f n);
-        fine = subst (λ (l : List ℕ). AllFine (w .mode) (map letter (take (w .count) l))) (sym p) (subst (AllFine (w .mode)) (sym (front-letters (w .letters) (w .count) ws f n)) f);
-      }
-
-  pub edits-fine : (e : Edited) (d : Rules.Edit) → e ≡ editedOf (w .letters) d → Good (wordOf w .state .letters) d → Edits w e
-  edits-fine e d p good-none = subst (Edits w) (sym p) (record { canonical = r .canonical; fine = r .fine })
-  edits-fine e d p (good-off c {w = ws} a) = in-front e ws (ap (λ (y : Edited). y .letters) p) a
-  edits-fine e d p (good c {w = ws} a q h) = in-front e ws (ap (λ (y : Edited). y .letters) p) a
+-- and so are its letters
+pub room-in : (w : Word) → Ready w → length (w .letters) ≡ mostKeys → Room (w .letters) (w .count)
+room-in w r whole =
+    record {
+      given = record { whole = whole; fits = omega (arith, r .room, r .fewer); canonical = r .canonical };
+      room = omega (arith, r .room, r .fewer);
+    }
 
 -- the key kept and counted
 module _ (w : Word) (k : ℕ) (room : w .typed < mostKeys) (whole : length (w .keys) ≡ mostKeys) where
@@ -71,8 +44,33 @@ module _ (w : Word) (k : ℕ) (room : w .typed < mostKeys) (whole : length (w .k
   typed-then : w .typed + 1 ≡ length (take (w .typed) (w .keys) ++ (k ∷ []))
   typed-then = simp (length-append, length-take-le (w .typed) (w .keys) (omega (arith, whole, room)))
 
-  pub kept : (d : Done) → countedIn (withState w (stateOf d)) k (outcomeOf d) ≡ holding w (counted (wordOf w) k d)
-  kept d = λ i. withKeys (holding w (counted (wordOf w) k d)) (keys-kept i) (typed-then i)
+  abbrev counts : Counts
+  counts = record { acted = w .acted; undone = w .undone; appended = w .appended }
+
+  -- the word as it is put together at the end
+  abbrev together : Answer.Done → List ℕ → Counts → List ℕ → ℕ → Step
+  together x l n ks t =
+      record {
+        answer = Did (x .outcome);
+        word =
+            record {
+              mode = w .mode;
+              letters = l;
+              count = x .rest .count;
+              tone = x .rest .tone;
+              closed = x .rest .closed;
+              keys = ks;
+              typed = t;
+              acted = n .acted;
+              undone = n .undone;
+              appended = n .appended;
+            };
+      }
+
+  pub kept : (d : Done) {x : Answer.Done} {l : List ℕ} {n : Counts} → Does d (w .letters) x l → n ≡ countedIn counts (x .outcome) → together x l n (set (w .keys) (w .typed) k) (w .typed + 1) ≡ didOf w k d
+  kept d p e =
+      let c = e ∙ ap (λ (y : Answer.Done). countedIn counts (y .outcome)) (p .told) in
+      λ i. together (p .told i) (p .left i) (c i) (keys-kept i) (typed-then i)
 
 -- the answer by the tests
 module _ (w : Word) (k : ℕ) where

@@ -1,7 +1,7 @@
--- The tries of Telex w in order, over arrays; and an edit by its key.
-use mathlib.Core.Path.{_≡_, refl}
+-- The tries of Telex w in order: the second where the first is none, and so left the letters as they were.
+use mathlib.Core.Path.{_≡_, refl, sym, ap, subst, _∙_}
 use mathlib.Core.List.{List, [], _∷_}
-use mathlib.Core.Logic.{inl, inr}
+use mathlib.Core.Logic.{_⊎_, inl, inr}
 use Prim.Native.Nat.{ℕ}
 use native.Mathlib.Omega.{arith}
 use types.Run.{OneOf}
@@ -10,18 +10,32 @@ use Rattle.rules.specs.KeyRoles as Rules
 use Rattle.rules.specs.KeyRoles.{nothing, off, change, first}
 use Rattle.step.specs.declared.Edit.{Edit}
 use Rattle.step.specs.declared.Edit.the-variants.{Nothing}
-use Rattle.step.specs.Held.{editedOf}
+use Rattle.step.specs.Held.{kindOf, editedIn, Edits}
 use Rattle.step.proofs.Edit.{the-type}
 
--- no edit: the second try
-pub second : (l : List ℕ) (e f : Rules.Edit) → editedOf l e .edit ≡ Nothing → editedOf l f ≡ editedOf l (first e f)
-second l nothing f p = refl
-second l (off w) f p = let z : _≡_ {A = ℕ} 0 1 = cc in absurd (omega arith)
-second l (change a w) f p = let z : _≡_ {A = ℕ} 0 1 = cc in absurd (omega arith)
+-- no edit
+is-none : (e : Rules.Edit) → kindOf e ≡ Nothing → e ≡ nothing
+is-none nothing p = refl
+is-none (off w) p = let z : _≡_ {A = ℕ} 0 1 = cc in absurd (omega arith)
+is-none (change a w) p = let z : _≡_ {A = ℕ} 0 1 = cc in absurd (omega arith)
+
+module _ {e : Rules.Edit} {l : List ℕ} {r : Edit} {m : List ℕ} (tried : Edits e l r m) where
+  none : r ≡ Nothing → e ≡ nothing
+  none p = is-none _ (sym (tried .told) ∙ p)
+
+  pub untouched : r ≡ Nothing → m ≡ l
+  untouched p = tried .left ∙ ap (editedIn l) (none p)
+
+  -- the second try
+  pub second : (f : List ℕ → Rules.Edit) {r′ : Edit} {m′ : List ℕ} → r ≡ Nothing → Edits (f m) m r′ m′ → Edits (first e (f l)) l r′ m′
+  second f {r′} {m′} p q = subst (λ (d : Rules.Edit). Edits (first d (f l)) l r′ m′) (sym (none p)) (subst (λ (k : List ℕ). Edits (f k) k r′ m′) (untouched p) q)
 
 -- an edit: the first
-pub only-first : (l : List ℕ) (e f : Rules.Edit) → OneOf (1 ∷ 2 ∷ []) (tagOf the-type (editedOf l e .edit)) → editedOf l e ≡ editedOf l (first e f)
-only-first l nothing f (inl p) = absurd (omega arith)
-only-first l nothing f (inr p) = absurd (omega arith)
-only-first l (off w) f p = refl
-only-first l (change a w) f p = refl
+not-none : (_≡_ {A = ℕ} 0 1) ⊎ (_≡_ {A = ℕ} 0 2) → ⊥
+not-none (inl z) = omega arith
+not-none (inr z) = omega arith
+
+pub only-first : (e f : Rules.Edit) {l : List ℕ} {r : Edit} {m : List ℕ} → Edits e l r m → OneOf (1 ∷ 2 ∷ []) (tagOf the-type r) → Edits (first e f) l r m
+only-first nothing f p o = absurd (not-none (subst (λ (k : Edit). OneOf (1 ∷ 2 ∷ []) (tagOf the-type k)) (p .told) o))
+only-first (off w) f p o = p
+only-first (change a w) f p o = p

@@ -1,28 +1,44 @@
--- What a rule of document 01 leaves in a record: the letters of an edit, the state after a key, and the record with the key kept and counted. Only contracts of private functions cite what stands here.
+-- What a rule of document 01 leaves in the array of letters and in the state beside it, and the step's two answers. Only contracts of private functions cite what stands here.
 use mathlib.Core.Path.{_≡_}
-use mathlib.Core.Bool.{Bool, true, false}
 use mathlib.Core.List.{List, map}
-use Prim.Native.Nat.{ℕ, _+_, _≤_, _<_}
+use Prim.Native.Nat.{ℕ, _≤_, _<_}
 use Prim.Native.Char.{code}
-use lib.ListN.{length, take, set}
-use Rattle.rules.specs.Letters.{Letter, Letters, small}
-use Rattle.rules.specs.TakingApart.{admitted}
-use Rattle.rules.specs.declared.Act.the-variants.{Shape}
-use Rattle.rules.specs.TheWord.{State, Done, stateOf, outcomeOf, oneMore, isActed, isUndone, isAppended, mostKeys, letter, number, atFront, wordOf, holding, counted}
+use lib.ListN.{length, take}
+use Rattle.rules.specs.Letters.{Letter, small}
+use Rattle.rules.specs.TheWord.{State, Done, acted, undone, appended, stateOf, outcomeOf, oneMore, isActed, isUndone, isAppended, mostKeys, letter, number, atFront, wordOf, holding, counted}
 use Rattle.rules.proofs.Numbers.{AllFine}
 use Rattle.rules.specs.KeyRoles as Rules
-use Rattle.rules.specs.KeyRoles.{nothing, off, change}
+use Rattle.rules.specs.KeyRoles.{append, undo, nothing, off, change}
 use Rattle.rules.specs.declared.Word.{Word}
 use Rattle.rules.specs.declared.Outcome.{Outcome}
 use Rattle.rules.specs.declared.Step.{Step}
 use Rattle.rules.specs.declared.StepAnswer.the-variants.{Did, Refused}
+use Rattle.step.specs.declared.Edit.{Edit}
 use Rattle.step.specs.declared.Edit.the-variants.{Nothing, Off, Change}
-use Rattle.step.specs.declared.Edited.{Edited}
+use Rattle.step.specs.declared.Rest.{Rest}
+use Rattle.step.specs.declared.Counts.{Counts}
 use Rattle.step.specs.declared.Done as Answer
 
 -- numbers that are letters' numbers
 abbrev pub Canonical : List ℕ → Type 0
 Canonical ns = map number (map letter ns) ≡ ns
+
+-- an array whose first numbers are letters
+pub record Given (l : List ℕ) (count : ℕ) : Type 0 where
+  pub whole : length l ≡ mostKeys
+  pub fits : count ≤ mostKeys
+  pub canonical : Canonical (take count l)
+
+-- a place among the first letters of an array, and a shape that a number has room for
+pub record Aimed (l : List ℕ) (count i kind : ℕ) : Type 0 where
+  pub given : Given l count
+  pub inside : i < count
+  pub shape : kind < 8
+
+-- an array with room for a letter more
+pub record Room (l : List ℕ) (count : ℕ) : Type 0 where
+  pub given : Given l count
+  pub room : count < mostKeys
 
 -- a record with room for a key, whose letters are letters of its mode
 pub record Ready (w : Word) : Type 0 where
@@ -31,91 +47,55 @@ pub record Ready (w : Word) : Type 0 where
   pub canonical : Canonical (take (w .count) (w .letters))
   pub fine : AllFine (w .mode) (wordOf w .state .letters)
 
--- an array whose first numbers are letters
-pub record Given (l : List ℕ) (count : ℕ) : Type 0 where
-  pub fits : count ≤ mostKeys
-  pub canonical : Canonical (take count l)
-
--- a place among the first letters of an array, and a shape that a number has room for
-pub record Aimed (l : List ℕ) (count i kind : ℕ) : Type 0 where
-  pub fits : count ≤ mostKeys
-  pub canonical : Canonical (take count l)
-  pub inside : i < count
-  pub shape : kind < 8
-
--- the letters of an edit are letters of the mode
-pub record Edits (w : Word) (e : Edited) : Type 0 where
-  pub canonical : Canonical (take (w .count) (e .letters))
-  pub fine : AllFine (w .mode) (map letter (take (w .count) (e .letters)))
-
 -- the letter d in a shape
 abbrev pub dee : ℕ → Letter
 dee kind = small (code "d") kind
 
--- an edit, and the array of letters with it
-abbrev pub editedOf : List ℕ → Rules.Edit → Edited
-editedOf l nothing = record { edit = Nothing; letters = l }
-editedOf l (off w) = record { edit = Off; letters = atFront (map number w) l }
-editedOf l (change a w) = record { edit = Change a; letters = atFront (map number w) l }
+-- an edit without its letters, and the array with them
+abbrev pub kindOf : Rules.Edit → Edit
+kindOf nothing = Nothing
+kindOf (off w) = Off
+kindOf (change a w) = Change a
 
--- a candidate array, if its letters are admitted; else the array as it was
-abbrev pub askedIf : Bool → List ℕ → List ℕ → ℕ → Edited
-askedIf true l on kind = record { edit = Change (Shape kind); letters = on }
-askedIf false l on kind = record { edit = Nothing; letters = l }
+abbrev pub editedIn : List ℕ → Rules.Edit → List ℕ
+editedIn l nothing = l
+editedIn l (off w) = atFront (map number w) l
+editedIn l (change a w) = atFront (map number w) l
 
-abbrev pub askedIn : List ℕ → List ℕ → Letters → ℕ → Edited
-askedIn l on w kind = askedIf (admitted w) l on kind
+pub record Edits (e : Rules.Edit) (old : List ℕ) (r : Edit) (new : List ℕ) : Type 0 where
+  pub told : r ≡ kindOf e
+  pub left : new ≡ editedIn old e
 
--- the record with another state
-abbrev pub withState : Word → State → Word
-withState w s =
-    record {
-      mode = w .mode;
-      letters = atFront (map number (s .letters)) (w .letters);
-      count = length (s .letters);
-      tone = s .tone;
-      closed = s .closed;
-      keys = w .keys;
-      typed = w .typed;
-      acted = w .acted;
-      undone = w .undone;
-      appended = w .appended;
-    }
+-- the state that an array and what stands beside it hold; and a state, held so
+abbrev pub stateIn : List ℕ → Rest → State
+stateIn l r = record { letters = map letter (take (r .count) l); tone = r .tone; closed = r .closed }
 
--- the record with another tone
-abbrev pub toned : Word → ℕ → Word
-toned w t =
-    record {
-      mode = w .mode;
-      letters = w .letters;
-      count = w .count;
-      tone = t;
-      closed = w .closed;
-      keys = w .keys;
-      typed = w .typed;
-      acted = w .acted;
-      undone = w .undone;
-      appended = w .appended;
-    }
+abbrev pub restOf : State → Rest
+restOf s = record { count = length (s .letters); tone = s .tone; closed = s .closed }
 
-abbrev pub doneOf : Word → Done → Answer.Done
-doneOf w d = record { outcome = outcomeOf d; word = withState w (stateOf d) }
+abbrev pub lettersIn : List ℕ → State → List ℕ
+lettersIn l s = atFront (map number (s .letters)) l
 
--- the record with the key kept after the others, and one count raised by what it did
-abbrev pub countedIn : Word → ℕ → Outcome → Word
-countedIn w k o =
-    record {
-      mode = w .mode;
-      letters = w .letters;
-      count = w .count;
-      tone = w .tone;
-      closed = w .closed;
-      keys = set (w .keys) (w .typed) k;
-      typed = w .typed + 1;
-      acted = oneMore (isActed o) (w .acted);
-      undone = oneMore (isUndone o) (w .undone);
-      appended = oneMore (isAppended o) (w .appended);
-    }
+pub record Leaves (s : State) (old : List ℕ) (r : Rest) (new : List ℕ) : Type 0 where
+  pub beside : r ≡ restOf s
+  pub left : new ≡ lettersIn old s
+
+pub record Does (d : Done) (old : List ℕ) (r : Answer.Done) (new : List ℕ) : Type 0 where
+  pub told : r ≡ record { outcome = outcomeOf d; rest = restOf (stateOf d) }
+  pub left : new ≡ lettersIn old (stateOf d)
+
+-- what a key does once the letters are edited
+abbrev pub afterEdit : Edit → State → Letter → Done
+afterEdit Nothing s k = appended (append s k)
+afterEdit Off s k = undone (undo s k)
+afterEdit (Change a) s k = acted a s
+
+abbrev pub withTone : Rest → ℕ → Rest
+withTone r t = record { count = r .count; tone = t; closed = r .closed }
+
+-- one count raised by what a key did
+abbrev pub countedIn : Counts → Outcome → Counts
+countedIn n o = record { acted = oneMore (isActed o) (n .acted); undone = oneMore (isUndone o) (n .undone); appended = oneMore (isAppended o) (n .appended) }
 
 -- the step's answer where it is not refused, and where it is
 abbrev pub didOf : Word → ℕ → Done → Step

@@ -1,7 +1,6 @@
-// What a shape or stroke key does to the letters. The letters asked about are the letters written:
-// the candidate is built once, admission is asked of it, and it is what is handed back.
+// What a shape or stroke key does to the letters, where they lie. The letters asked about are the letters written:
+// the shape is put on, admission is asked of these very letters, and they stay so; where they are not admitted the old letter is put back.
 use crate::Edit;
-use crate::Edited;
 use rules::Act;
 use rules::BREVE;
 use rules::CIRCUMFLEX;
@@ -12,68 +11,61 @@ use rules::STROKE;
 use rules::ShapeKey;
 ghost use mathlib.Core.Path.{_≡_};
 ghost use mathlib.Core.List.{map};
-ghost use Prim.Native.Nat.{ℕ, suc, _+_, _<_, _≤_};
+ghost use Prim.Native.Nat.{_+_, _<_};
 ghost use lib.ListN.{take};
-ghost use Rattle.rules.specs.TheWord.{letter, number};
-ghost use Rattle.rules.specs.KeyRoles.{shaped, asked as askedOf, last, horned, shapeEdit, strokeEdit};
-ghost use Rattle.targets.specs.Aims.{oneAt, pairAt};
-ghost use Rattle.step.specs.Held.{Given, Aimed, editedOf, askedIn, dee};
 ghost use Rattle.rules.specs.Letters.{horn, is};
-ghost use lib.ListN.{set, getD};
+ghost use Rattle.rules.specs.TheWord.{letter};
+ghost use Rattle.rules.specs.KeyRoles.{asked as askedOf, last, horned, shapeEdit, strokeEdit};
 ghost use Rattle.targets.specs.Places.{wanted};
-
-// The candidate, if it is admitted; else the letters as they were.
-fn asked(letters: [u16; 32], on: [u16; 32], count: usize, kind: u8) -> Edited
-    requires { ⌜ count ≤ 32 ⌝ }
-    ensures { λ r. ⌜ r ≡ askedIn letters on (map letter (take count on)) kind ⌝ }
-{
-    let asked_about = on;
-    if syllable::admitted(&asked_about[0..count]) {
-        return Edited {
-            edit: Edit::Change(Act::Shape(kind)),
-            letters: on,
-        };
-    }
-    Edited {
-        edit: Edit::Nothing,
-        letters: letters,
-    }
-}
+ghost use Rattle.targets.specs.Aims.{oneAt, pairAt};
+ghost use Rattle.step.specs.Held.{Given, Aimed, Edits, dee};
 
 // A shape on the letter at a place: taken off if it is there already.
-fn at(letters: [u16; 32], count: usize, i: usize, kind: u8) -> Edited
-    requires { ⌜ Aimed letters count i kind ⌝ }
-    ensures { λ r. ⌜ r ≡ editedOf letters (askedOf kind (oneAt kind (Place.At i) (map letter (take count letters)))) ⌝ }
+fn at(letters: &mut [u16], count: usize, i: usize, kind: u8) -> Edit
+    requires { ⌜ Aimed (now letters) count i kind ⌝ }
+    ensures { λ r. ⌜ Edits (askedOf kind (oneAt kind (Place.At i) (map letter (take count (now (letters .entry)))))) (now (letters .entry)) r (now (letters .exit)) ⌝ }
 {
-    if parts::shape(letters[i]) == kind {
-        return Edited {
-            edit: Edit::Off,
-            letters: targets::reshaped_at(letters, i, PLAIN),
-        };
+    let old = letters[i];
+    if parts::shape(old) == kind {
+        letters[i] = targets::reshaped(old, PLAIN);
+        return Edit::Off;
     }
-    asked(letters, targets::reshaped_at(letters, i, kind), count, kind)
+    let new = targets::reshaped(old, kind);
+    letters[i] = new;
+    if syllable::admitted(&letters[0..count]) {
+        return Edit::Change(Act::Shape(kind));
+    }
+    letters[i] = old;
+    Edit::Nothing
 }
 
 // A horn on a letter and the next, both together: taken off if both have it already.
-fn both(letters: [u16; 32], count: usize, i: usize) -> Edited
-    requires { ⌜ Aimed letters count (i + 1) horn ⌝ }
-    ensures { λ r. ⌜ r ≡ editedOf letters (askedOf horn (pairAt (Place.At i) (map letter (take count letters)))) ⌝ }
+fn both(letters: &mut [u16], count: usize, i: usize) -> Edit
+    requires { ⌜ Aimed (now letters) count (i + 1) horn ⌝ }
+    ensures { λ r. ⌜ Edits (askedOf horn (pairAt (Place.At i) (map letter (take count (now (letters .entry)))))) (now (letters .entry)) r (now (letters .exit)) ⌝ }
 {
     let j = i + 1;
-    if (parts::shape(letters[i]) == HORN) & (parts::shape(letters[j]) == HORN) {
-        return Edited {
-            edit: Edit::Off,
-            letters: targets::reshaped_at(targets::reshaped_at(letters, i, PLAIN), j, PLAIN),
-        };
+    let u = letters[i];
+    let o = letters[j];
+    if (parts::shape(u) == HORN) & (parts::shape(o) == HORN) {
+        letters[i] = targets::reshaped(u, PLAIN);
+        letters[j] = targets::reshaped(o, PLAIN);
+        return Edit::Off;
     }
-    let on = targets::reshaped_at(targets::reshaped_at(letters, i, HORN), j, HORN);
-    asked(letters, on, count, HORN)
+    letters[i] = targets::reshaped(u, HORN);
+    letters[j] = targets::reshaped(o, HORN);
+    if syllable::admitted(&letters[0..count]) {
+        return Edit::Change(Act::Shape(HORN));
+    }
+    letters[j] = o;
+    letters[i] = u;
+    Edit::Nothing
 }
 
 // A horn on the pair; with no such pair, on the single letter.
-fn horn_edit(letters: [u16; 32], count: usize) -> Edited
-    requires { ⌜ Given letters count ⌝ }
-    ensures { λ r. ⌜ r ≡ editedOf letters (askedOf horn (horned (map letter (take count letters)))) ⌝ }
+fn horn_edit(letters: &mut [u16], count: usize) -> Edit
+    requires { ⌜ Given (now letters) count ⌝ }
+    ensures { λ r. ⌜ Edits (askedOf horn (horned (map letter (take count (now (letters .entry)))))) (now (letters .entry)) r (now (letters .exit)) ⌝ }
 {
     let pair = targets::pair(&letters[0..count]);
     if let Place::At(i) = pair {
@@ -81,45 +73,38 @@ fn horn_edit(letters: [u16; 32], count: usize) -> Edited
     }
     let single = targets::single(&letters[0..count]);
     let Place::At(i) = single else {
-        return Edited {
-            edit: Edit::Nothing,
-            letters: letters,
-        };
+        return Edit::Nothing;
     };
     at(letters, count, i, HORN)
 }
 
 // A circumflex or breve on the last letter that its key wants.
-fn last_edit(letters: [u16; 32], count: usize, key: ShapeKey, kind: u8) -> Edited
-    requires { ⌜ Given letters count × (kind < 8) ⌝ }
-    ensures { λ r. ⌜ r ≡ editedOf letters (askedOf kind (last (wanted key) kind (map letter (take count letters)))) ⌝ }
+fn last_edit(letters: &mut [u16], count: usize, key: ShapeKey, kind: u8) -> Edit
+    requires { ⌜ Given (now letters) count × (kind < 8) ⌝ }
+    ensures { λ r. ⌜ Edits (askedOf kind (last (wanted key) kind (map letter (take count (now (letters .entry)))))) (now (letters .entry)) r (now (letters .exit)) ⌝ }
 {
     let place = targets::last_wanted(&letters[0..count], key);
     let Place::At(i) = place else {
-        return Edited {
-            edit: Edit::Nothing,
-            letters: letters,
-        };
+        return Edit::Nothing;
     };
     at(letters, count, i, kind)
 }
 
 // Telex w: the horn's edit, or where that is none the breve's.
-fn horn_or_breve(letters: [u16; 32], count: usize) -> Edited
-    requires { ⌜ Given letters count ⌝ }
-    ensures { λ r. ⌜ r ≡ editedOf letters (shapeEdit ShapeKey.HornBreve (map letter (take count letters))) ⌝ }
+fn horn_or_breve(letters: &mut [u16], count: usize) -> Edit
+    requires { ⌜ Given (now letters) count ⌝ }
+    ensures { λ r. ⌜ Edits (shapeEdit ShapeKey.HornBreve (map letter (take count (now (letters .entry))))) (now (letters .entry)) r (now (letters .exit)) ⌝ }
 {
-    let horned = horn_edit(letters, count);
-    let edit = horned.edit;
+    let edit = horn_edit(letters, count);
     if let Edit::Nothing = edit {
         return last_edit(letters, count, ShapeKey::Breve, BREVE);
     }
-    horned
+    edit
 }
 
-pub(crate) fn shape_edit(letters: [u16; 32], count: usize, key: ShapeKey) -> Edited
-    requires { ⌜ Given letters count ⌝ }
-    ensures { λ r. ⌜ r ≡ editedOf letters (shapeEdit key (map letter (take count letters))) ⌝ }
+pub(crate) fn shape_edit(letters: &mut [u16], count: usize, key: ShapeKey) -> Edit
+    requires { ⌜ Given (now letters) count ⌝ }
+    ensures { λ r. ⌜ Edits (shapeEdit key (map letter (take count (now (letters .entry))))) (now (letters .entry)) r (now (letters .exit)) ⌝ }
 {
     match key {
         ShapeKey::CircumflexOn(_) => last_edit(letters, count, key, CIRCUMFLEX),
@@ -137,31 +122,22 @@ fn is_d(n: u16, kind: u8) -> bool
 }
 
 // If the first letter is đ, the stroke is taken off; if it is d, and it stands alone or the letters are admitted, put on.
-pub(crate) fn stroke_edit(letters: [u16; 32], count: usize) -> Edited
-    requires { ⌜ Given letters count ⌝ }
-    ensures { λ r. ⌜ r ≡ editedOf letters (strokeEdit (map letter (take count letters))) ⌝ }
+pub(crate) fn stroke_edit(letters: &mut [u16], count: usize) -> Edit
+    requires { ⌜ Given (now letters) count ⌝ }
+    ensures { λ r. ⌜ Edits (strokeEdit (map letter (take count (now (letters .entry))))) (now (letters .entry)) r (now (letters .exit)) ⌝ }
 {
     if count == 0 {
-        return Edited {
-            edit: Edit::Nothing,
-            letters: letters,
-        };
+        return Edit::Nothing;
     }
-    if is_d(letters[0], STROKE) {
-        return Edited {
-            edit: Edit::Off,
-            letters: targets::reshaped_at(letters, 0, PLAIN),
-        };
+    let first = letters[0];
+    if is_d(first, STROKE) {
+        letters[0] = targets::reshaped(first, PLAIN);
+        return Edit::Off;
     }
     let alone = count == 1;
-    if is_d(letters[0], PLAIN) & (alone | syllable::admitted(&letters[0..count])) {
-        return Edited {
-            edit: Edit::Change(Act::Stroke),
-            letters: targets::reshaped_at(letters, 0, STROKE),
-        };
+    if is_d(first, PLAIN) & (alone | syllable::admitted(&letters[0..count])) {
+        letters[0] = targets::reshaped(first, STROKE);
+        return Edit::Change(Act::Stroke);
     }
-    Edited {
-        edit: Edit::Nothing,
-        letters: letters,
-    }
+    Edit::Nothing
 }

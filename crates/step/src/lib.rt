@@ -9,196 +9,220 @@ use rules::StepAnswer;
 use rules::ToneKey;
 use rules::Word;
 ghost use mathlib.Core.Path.{_≡_};
-ghost use Prim.Native.Nat.{_<_, _≤_};
-ghost use lib.ListN.{take};
-ghost use Rattle.rules.specs.TheWord.{wordOf, letter};
 ghost use mathlib.Core.List.{map};
-ghost use Rattle.rules.specs.KeyRoles as Rules;
-ghost use Rattle.rules.specs.KeyRoles.{letterOfKey, append as appendOf, undo as undoOf, toneGoes, toneDoes, editDoes, keyDoes as keyDoesOf};
-ghost use Rattle.rules.proofs.Edits.{Good};
+ghost use Prim.Native.Nat.{_≤_};
+ghost use Rattle.rules.specs.TheWord.{wordOf, letter, appended as appendedOf, undone as undoneOf};
+ghost use Rattle.rules.specs.KeyRoles.{letterOfKey, append as appendOf, undo as undoOf, toneGoes, toneDoes, unlessClosed, role as roleOf, keyDoes as keyDoesOf};
+ghost use Rattle.rules.proofs.Numbers.{AllFine};
 ghost use Rattle.rules.specs.WhatComesBack.{step as stepOf};
-ghost use Rattle.step.specs.Held.{Ready, Edits, editedOf, withState, toned, doneOf, countedIn, didOf, refusedOf};
+ghost use Rattle.step.specs.Held.{Ready, Room, Leaves, Does, stateIn, afterEdit, withTone, countedIn, didOf, refusedOf};
 
 mod edits;
 
-// What a shape or stroke key does to the letters: nothing, take a mark off, or change them; and the letters then.
+// What a shape or stroke key did to the letters: nothing, a mark taken off, or a change.
 enum Edit {
     Nothing,
     Off,
     Change(Act),
 }
 
-struct Edited {
-    edit: Edit,
-    letters: [u16; 32],
+// A word's state beside its letters.
+struct Rest {
+    count: u8,
+    tone: u8,
+    closed: bool,
 }
 
-// What a key did, and the word then, before the key is kept and counted.
+// What a key did, and the state beside the letters then, before the key is kept and counted.
 struct Done {
     outcome: Outcome,
-    word: Word,
+    rest: Rest,
 }
 
 // The key as a plain letter after the others.
-fn append(w: Word, key: u8) -> Word
-    requires { ⌜ Ready w ⌝ }
-    ensures { λ r. ⌜ r ≡ withState w (appendOf (wordOf w .state) (letterOfKey key)) ⌝ }
+fn append(letters: &mut [u16], rest: Rest, key: u8) -> Rest
+    requires { ⌜ Room (now letters) (rest .count) ⌝ }
+    ensures { λ r. ⌜ Leaves (appendOf (stateIn (now (letters .entry)) rest) (letterOfKey key)) (now (letters .entry)) r (now (letters .exit)) ⌝ }
 {
-    let n = w.count as usize;
-    let mut next = w;
-    next.letters[n] = keys::letter_of_key(key);
-    next.count = w.count + 1;
+    let n = rest.count as usize;
+    letters[n] = keys::letter_of_key(key);
+    let mut next = rest;
+    next.count = rest.count + 1;
     next
 }
 
-// What is left once the mark is off: the key is appended and the word closed.
-fn undo(w: Word, key: u8) -> Word
-    requires { ⌜ Ready w ⌝ }
-    ensures { λ r. ⌜ r ≡ withState w (undoOf (wordOf w .state) (letterOfKey key)) ⌝ }
+fn appended(letters: &mut [u16], rest: Rest, key: u8) -> Done
+    requires { ⌜ Room (now letters) (rest .count) ⌝ }
+    ensures { λ r. ⌜ Does (appendedOf (appendOf (stateIn (now (letters .entry)) rest) (letterOfKey key))) (now (letters .entry)) r (now (letters .exit)) ⌝ }
 {
-    let mut next = append(w, key);
+    Done {
+        outcome: Outcome::Appended,
+        rest: append(letters, rest, key),
+    }
+}
+
+// What is left once the mark is off: the key is appended and the word closed.
+fn undone(letters: &mut [u16], rest: Rest, key: u8) -> Done
+    requires { ⌜ Room (now letters) (rest .count) ⌝ }
+    ensures { λ r. ⌜ Does (undoneOf (undoOf (stateIn (now (letters .entry)) rest) (letterOfKey key))) (now (letters .entry)) r (now (letters .exit)) ⌝ }
+{
+    let mut next = append(letters, rest, key);
     next.closed = true;
+    Done {
+        outcome: Outcome::Undone,
+        rest: next,
+    }
+}
+
+fn with_tone(rest: Rest, tone: u8) -> Rest
+    ensures { λ r. ⌜ r ≡ withTone rest tone ⌝ }
+{
+    let mut next = rest;
+    next.tone = tone;
     next
 }
 
 // Tone key: an undo if that tone is there already; else the tone, if the letters are admitted and it fits the final.
 // Clear: no tone, if there was one.
-fn tone_key(w: Word, key: u8, role: ToneKey) -> Done
-    requires { ⌜ Ready w ⌝ }
-    ensures { λ r. ⌜ r ≡ doneOf w (toneDoes role (wordOf w .state) (letterOfKey key)) ⌝ }
+fn tone_key(letters: &mut [u16], rest: Rest, key: u8, role: ToneKey) -> Done
+    requires { ⌜ Room (now letters) (rest .count) ⌝ }
+    ensures { λ r. ⌜ Does (toneDoes role (stateIn (now (letters .entry)) rest) (letterOfKey key)) (now (letters .entry)) r (now (letters .exit)) ⌝ }
 {
-    let tone = w.tone;
+    let tone = rest.tone;
     let ToneKey::SetTone(wanted) = role else {
         if tone == NO_TONE {
-            return Done {
-                outcome: Outcome::Appended,
-                word: append(w, key),
-            };
+            return appended(letters, rest, key);
         }
         return Done {
             outcome: Outcome::Acted(Act::Clear),
-            word: with_tone(w, NO_TONE),
+            rest: with_tone(rest, NO_TONE),
         };
     };
     if tone == wanted {
-        return Done {
-            outcome: Outcome::Undone,
-            word: undo(with_tone(w, NO_TONE), key),
-        };
+        return undone(letters, with_tone(rest, NO_TONE), key);
     }
-    let letters = w.letters;
-    if tone_goes(letters, w.count as usize, wanted) {
+    let n = rest.count as usize;
+    if tone_goes(&letters[0..n], wanted) {
         return Done {
             outcome: Outcome::Acted(Act::Tone(wanted)),
-            word: with_tone(w, wanted),
+            rest: with_tone(rest, wanted),
         };
     }
-    Done {
-        outcome: Outcome::Appended,
-        word: append(w, key),
-    }
+    appended(letters, rest, key)
 }
 
-fn with_tone(w: Word, tone: u8) -> Word
-    ensures { λ r. ⌜ r ≡ toned w tone ⌝ }
+fn tone_goes(word: &[u16], tone: u8) -> bool
+    ensures { λ r. ⌜ r ≡ toneGoes tone (map letter (now (word .entry))) ⌝ }
 {
-    let mut next = w;
-    next.tone = tone;
-    next
-}
-
-fn tone_goes(letters: [u16; 32], count: usize, tone: u8) -> bool
-    requires { ⌜ count ≤ 32 ⌝ }
-    ensures { λ r. ⌜ r ≡ toneGoes tone (map letter (take count letters)) ⌝ }
-{
-    let word = &letters[0..count];
     syllable::admitted(word) & syllable::fits(word, tone)
 }
 
 // What an edit of the letters does: nothing is an appended key, a mark taken off an undo, a change an act.
-fn edit_does(w: Word, key: u8, e: Edited) -> Done
-    requires { ⌜ Ready w × Edits w e ⌝ }
-    ensures { λ r. ⌜ ((d : Rules.Edit) → e ≡ editedOf (w .letters) d → Good (wordOf w .state .letters) d → r ≡ doneOf w (editDoes d (wordOf w .state) (letterOfKey key))) ⌝ }
+fn edit_does(letters: &mut [u16], rest: Rest, key: u8, edit: Edit) -> Done
+    requires { ⌜ Room (now letters) (rest .count) ⌝ }
+    ensures { λ r. ⌜ Does (afterEdit edit (stateIn (now (letters .entry)) rest) (letterOfKey key)) (now (letters .entry)) r (now (letters .exit)) ⌝ }
 {
-    let edit = e.edit;
-    let letters = e.letters;
-    let mut next = w;
-    next.letters = letters;
     if let Edit::Off = edit {
-        return Done {
-            outcome: Outcome::Undone,
-            word: undo(next, key),
-        };
+        return undone(letters, rest, key);
     }
     if let Edit::Change(act) = edit {
         return Done {
             outcome: Outcome::Acted(act),
-            word: next,
+            rest: rest,
         };
     }
-    Done {
-        outcome: Outcome::Appended,
-        word: append(w, key),
-    }
-}
-
-// The key kept, and one count raised by what it did.
-fn counted(done: Done, key: u8) -> Word
-    requires { ⌜ (done .word .typed < 32) × (done .word .acted ≤ 32) × (done .word .undone ≤ 32) × (done .word .appended ≤ 32) ⌝ }
-    ensures { λ r. ⌜ r ≡ countedIn (done .word) key (done .outcome) ⌝ }
-{
-    let outcome = done.outcome;
-    let n = done.word.typed as usize;
-    let mut next = done.word;
-    next.keys[n] = key;
-    next.typed = done.word.typed + 1;
-    if let Outcome::Acted(_) = outcome {
-        next.acted = done.word.acted + 1;
-        return next;
-    }
-    if let Outcome::Undone = outcome {
-        next.undone = done.word.undone + 1;
-        return next;
-    }
-    next.appended = done.word.appended + 1;
-    next
+    appended(letters, rest, key)
 }
 
 // What a key does by its role: a closed word appends it, and so does a word for which it has none.
-fn key_does(w: Word, key: u8) -> Done
-    requires { ⌜ Ready w ⌝ }
-    ensures { λ r. ⌜ r ≡ doneOf w (keyDoesOf (wordOf w) key) ⌝ }
+fn key_does(letters: &mut [u16], rest: Rest, mode: u8, key: u8) -> Done
+    requires { ⌜ Room (now letters) (rest .count) × AllFine mode (stateIn (now letters) rest .letters) ⌝ }
+    ensures { λ r. ⌜ Does (unlessClosed (rest .closed) (roleOf mode key) (stateIn (now (letters .entry)) rest) (letterOfKey key)) (now (letters .entry)) r (now (letters .exit)) ⌝ }
 {
-    if w.closed {
-        return Done {
-            outcome: Outcome::Appended,
-            word: append(w, key),
-        };
+    if rest.closed {
+        return appended(letters, rest, key);
     }
-    let letters = w.letters;
-    let count = w.count as usize;
-    let role = keys::role(w.mode, key);
+    let count = rest.count as usize;
+    let role = keys::role(mode, key);
     match role {
-        Role::ToneRole(tone) => tone_key(w, key, tone),
-        Role::ShapeRole(shape) => edit_does(w, key, edits::shape_edit(letters, count, shape)),
-        Role::StrokeRole => edit_does(w, key, edits::stroke_edit(letters, count)),
-        Role::NoRole => Done {
-            outcome: Outcome::Appended,
-            word: append(w, key),
-        },
+        Role::ToneRole(tone) => tone_key(letters, rest, key, tone),
+        Role::ShapeRole(shape) => {
+            let edit = edits::shape_edit(letters, count, shape);
+            edit_does(letters, rest, key, edit)
+        }
+        Role::StrokeRole => {
+            let edit = edits::stroke_edit(letters, count);
+            edit_does(letters, rest, key, edit)
+        }
+        Role::NoRole => appended(letters, rest, key),
     }
 }
 
+// How many keys acted, undid and were appended.
+struct Counts {
+    acted: u8,
+    undone: u8,
+    appended: u8,
+}
+
+// One count raised by what a key did.
+fn counted(counts: Counts, outcome: Outcome) -> Counts
+    requires { ⌜ (counts .acted ≤ 32) × (counts .undone ≤ 32) × (counts .appended ≤ 32) ⌝ }
+    ensures { λ r. ⌜ r ≡ countedIn counts outcome ⌝ }
+{
+    let mut next = counts;
+    if let Outcome::Acted(_) = outcome {
+        next.acted = counts.acted + 1;
+        return next;
+    }
+    if let Outcome::Undone = outcome {
+        next.undone = counts.undone + 1;
+        return next;
+    }
+    next.appended = counts.appended + 1;
+    next
+}
+
 // A key that the word has room for and its mode allows, typed: kept, and counted by what it did.
+// The word is put together once, at the end: a record that is handed on by value is copied each time.
 fn typed(w: Word, key: u8) -> Step
     requires { ⌜ Ready w × (w .acted ≤ 32) × (w .undone ≤ 32) × (w .appended ≤ 32) ⌝ }
     ensures { λ r. ⌜ r ≡ didOf w key (keyDoesOf (wordOf w) key) ⌝ }
 {
-    let done = key_does(w, key);
+    let mut letters = w.letters;
+    let rest = Rest {
+        count: w.count,
+        tone: w.tone,
+        closed: w.closed,
+    };
+    let done = key_does(&mut letters, rest, w.mode, key);
     let outcome = done.outcome;
+    let now = done.rest;
+    let mut keys = w.keys;
+    let n = w.typed as usize;
+    keys[n] = key;
+    let counts = counted(
+        Counts {
+            acted: w.acted,
+            undone: w.undone,
+            appended: w.appended,
+        },
+        outcome,
+    );
     Step {
         answer: StepAnswer::Did(outcome),
-        word: counted(done, key),
+        word: Word {
+            mode: w.mode,
+            letters: letters,
+            count: now.count,
+            tone: now.tone,
+            closed: now.closed,
+            keys: keys,
+            typed: w.typed + 1,
+            acted: counts.acted,
+            undone: counts.undone,
+            appended: counts.appended,
+        },
     }
 }
 

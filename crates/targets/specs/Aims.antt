@@ -1,11 +1,9 @@
 -- What a shape key finds at a place of a word's letters: the letters with the shape off, where the target is already so shaped; else with the new shape.
 use mathlib.Core.Bool.{_&&_}
-use mathlib.Core.List.{List, [], _∷_}
+use mathlib.Core.List.{[], _∷_}
 use Prim.Native.Nat.{ℕ, zero, suc}
 use lib.Dec.{eqb}
-use lib.ListN.{set, getD}
 use Rattle.rules.specs.Letters.{Letters, plain, horn}
-use Rattle.rules.specs.TheWord.{letter, number}
 use Rattle.rules.specs.KeyRoles.{shaped, Found, nowhere, target}
 use Rattle.rules.specs.declared.Place.{Place}
 use Rattle.rules.specs.declared.Place.the-variants.{At, Nowhere}
@@ -20,10 +18,6 @@ abbrev pub shapeAt : ℕ → Letters → ℕ
 shapeAt i [] = plain
 shapeAt zero (x ∷ xs) = x .shape
 shapeAt (suc i) (x ∷ xs) = shapeAt i xs
-
--- the numbers with another shape at a place
-abbrev pub reshapedAt : List ℕ → ℕ → ℕ → List ℕ
-reshapedAt l i sh = set l i (number (shaped sh (letter (getD l i 0))))
 
 -- one letter
 abbrev pub oneAt : ℕ → Place → Letters → Found

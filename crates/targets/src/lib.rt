@@ -9,7 +9,6 @@ ghost use Rattle.rules.specs.TheWord.{letter, number};
 ghost use mathlib.Core.Bool.{false};
 ghost use Rattle.rules.specs.KeyRoles.{shaped, isAEO, isQ};
 ghost use Rattle.targets.specs.Places.{wanted, lastPlace, isPair, pairPlace, isSingle, singlePlace};
-ghost use Rattle.targets.specs.Aims.{reshapedAt};
 
 fn base(n: u16) -> u8
     ensures { λ r. ⌜ r ≡ letter n .base ⌝ }
@@ -18,21 +17,10 @@ fn base(n: u16) -> u8
 }
 
 // The same letter in another shape, one of the eight that a letter's number has room for.
-fn reshaped(n: u16, shape: u8) -> u16
+pub fn reshaped(n: u16, shape: u8) -> u16
     ensures { λ r. ⌜ r ≡ number (shaped (shape % 8) (letter n)) ⌝ }
 {
     n % 256 + 256 * ((shape % 8) as u16) + n / CAPITAL % 2 * CAPITAL
-}
-
-// The array with the letter at a place in another shape; as it was where there is no such place.
-pub fn reshaped_at(letters: [u16; 32], i: usize, shape: u8) -> [u16; 32]
-    ensures { λ r. ⌜ r ≡ reshapedAt letters i (shape % 8) ⌝ }
-{
-    let mut next = letters;
-    if i < 32 {
-        next[i] = reshaped(letters[i], shape);
-    }
-    next
 }
 
 // Circumflex wants its own letter, or a, e or o; breve wants a.

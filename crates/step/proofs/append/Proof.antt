@@ -14,6 +14,8 @@ append-spec =
     (λ c. search needs)
     (λ c. search needs)
     (λ c. search needs)
+    (λ c. search needs)
     (λ c.
-    let at = c .before .before .before in
-    appends (at .args .w) (at .pre) (search needs) (letterOfKey (at .args .key)) (c .before .letter-of-key .result) (c .before .letter-of-key .ensures)))
+    let key = c .before in
+    let at = key .before .before .before in
+    appends (at .args .letters .now) (at .args .rest) (at .pre) (letterOfKey (at .args .key)) (key .letter-of-key .result) (key .letter-of-key .ensures)))

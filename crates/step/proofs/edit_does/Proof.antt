@@ -1,10 +1,10 @@
 -- `step::edit_does` meets its contract: each arm is the case of its edit.
-use mathlib.Core.Path.{ap, _∙_}
+use mathlib.Core.Path.{ap}
 use borrow.Author.Needs.{needs}
 use Rattle.rules.specs.KeyRoles.{letterOfKey}
-use Rattle.rules.specs.declared.Word.{Word}
-use Rattle.rules.specs.declared.Outcome.the-variants.{Undone, Appended}
-use Rattle.step.proofs.Rulings.{edit-off, edit-change, edit-nothing}
+use Rattle.step.specs.declared.Edit.{Edit}
+use Rattle.step.specs.Held.{stateIn, afterEdit}
+use Rattle.step.proofs.States.{same, as-acted, as-ruled, no-edit}
 use Rattle.step.proofs.edit_does.Statement.{statement}
 use Rattle.step.proofs.edit_does.Tie as tie
 
@@ -14,16 +14,19 @@ edit-does-spec =
     (tie.spec
     (λ c. search needs)
     (λ c κs. search needs)
-    (λ c d p g.
-    let at = c .before .before .before .before in
-    ap (λ (m : Word). record { outcome = Undone; word = m }) (c .undo .ensures) ∙
-    edit-off (at .args .w) (letterOfKey (at .args .key)) (at .args .e) (at .pre .0) (search needs) d p g (c .before .enum-told .given .1))
     (λ c. search needs)
-    (λ c d p g.
-    let at = c .before .before .before .before .before in
-    edit-change (at .args .w) (letterOfKey (at .args .key)) (at .args .e) (at .pre .0) (search needs) (c .before .edit .given .0 .0) d p g (c .before .edit .given .1))
+    (λ c.
+    let told = c .before .before .before .before in
+    let at = told .before .before .before in
+    as-ruled (ap (λ (e : Edit). afterEdit e (stateIn (at .args .letters .now) (at .args .rest)) (letterOfKey (at .args .key))) (told .enum-told .given .1)) (c .before .before .undone .ensures))
+    (λ c. search needs)
+    (λ c.
+    let edit = c .before in
+    let at = edit .before .before .before .before in
+    as-ruled (ap (λ (e : Edit). afterEdit e (stateIn (at .args .letters .now) (at .args .rest)) (letterOfKey (at .args .key))) (edit .edit .given .1)) (as-acted (edit .edit .given .0 .0) (same (at .args .letters .now) (at .args .rest) (at .pre .given))))
     (λ c κs. search needs)
-    (λ c d p g.
-    let at = c .before .before .before .before in
-    ap (λ (m : Word). record { outcome = Appended; word = m }) (c .append .ensures) ∙
-    edit-nothing (at .args .w) (letterOfKey (at .args .key)) (at .args .e) (at .pre .0) (search needs) d p (c .before .before .match .keys2) (c .before .match2 .keys2)))
+    (λ c. search needs)
+    (λ c.
+    let no = c .before .before .before .before in
+    let at = no .before .before .before in
+    as-ruled (ap (λ (e : Edit). afterEdit e (stateIn (at .args .letters .now) (at .args .rest)) (letterOfKey (at .args .key))) (no-edit (at .args .edit) (no .before .match .keys2) (no .match2 .keys2))) (c .before .before .appended .ensures)))

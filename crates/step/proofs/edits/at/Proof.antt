@@ -1,10 +1,9 @@
--- `step::edits::at` meets its contract: the mark is taken off, or put on and asked about.
-use mathlib.Core.Path.{_≡_, sym, ap, _∙_}
-use Prim.Native.Nat.{_%_}
+-- `step::edits::at` meets its contract: the mark is taken off, or put on, asked about, and kept or put back.
+use mathlib.Core.Path.{sym, _∙_}
 use native.Mathlib.Omega.{arith}
+use lib.ListN.{length-set}
 use borrow.Author.Needs.{needs}
-use Rattle.targets.specs.Aims.{reshapedAt}
-use Rattle.step.proofs.Stored.{taken-off, put-on}
+use Rattle.step.proofs.Stored.{taken-off, one-stays, one-back}
 use Rattle.step.proofs.edits.at.Statement.{statement}
 use Rattle.step.proofs.edits.at.Tie as tie
 
@@ -16,16 +15,35 @@ at-spec =
     (λ c. search needs)
     (λ c κs. search needs)
     (λ c κs. search needs)
+    (λ c. search needs)
+    (λ c. search needs)
+    (λ c. search needs)
     (λ c.
-    let at = c .before .before .before in
-    taken-off (at .args .t1) (at .args .count) (at .args .i) (at .args .kind) (at .pre) (search needs) (c .reshaped-at .result) (c .reshaped-at .ensures)
-    (sym (c .before .before .shape .ensures) ∙ c .before .if1 .taken))
+    let yes = c .before in
+    let at = yes .before .before .before .before in
+    taken-off (at .args .letters .now) (at .args .count) (at .args .i) (at .args .kind) (at .pre) (c .reshaped .result) (c .reshaped .ensures) (sym (yes .before .shape .ensures) ∙ yes .if1 .taken))
     (λ c κs. search needs)
+    (λ c. search needs)
+    (λ c. search needs)
+    (λ c. search needs)
+    (λ c. search needs)
+    (λ c. let at = c .before .before .before .before .before .before in simp length-set (omega (arith, at .pre .given .whole, at .pre .given .fits)))
     (λ c κs. search needs)
+    (λ c. search needs)
     (λ c.
-    let no = c .before .before in
-    let at = no .before .before in
-    let e : at .args .kind % 8 ≡ at .args .kind = omega (arith, at .pre .shape) in
-    c .asked .ensures ∙
-    put-on (at .args .t1) (at .args .count) (at .args .i) (at .args .kind) (at .pre) (search needs) (c .before .reshaped-at2 .result)
-    (c .before .reshaped-at2 .ensures ∙ ap (reshapedAt (at .args .t1) (at .args .i)) e) (λ h. no .if1 .left (no .before .shape .ensures ∙ h))))
+    let on = c .before .before .before .before in
+    let no = on .before in
+    let at = no .before .before .before .before in
+    one-stays (at .args .letters .now) (at .args .count) (at .args .i) (at .args .kind) (at .pre) (on .reshaped2 .result) (on .reshaped2 .ensures)
+    (λ h. no .if1 .left (no .before .shape .ensures ∙ h)) (c .before .admitted .ensures) (c .if2 .taken))
+    (λ c. search needs)
+    (λ c.
+    let at = c .before .before .before .before .before .before .before .before .before in
+    simp length-set (omega (arith, at .pre .given .whole, at .pre .given .fits, at .pre .inside)))
+    (λ c. search needs)
+    (λ c.
+    let on = c .before .before .before .before in
+    let no = on .before in
+    let at = no .before .before .before .before in
+    one-back (at .args .letters .now) (at .args .count) (at .args .i) (at .args .kind) (at .pre) (on .reshaped2 .result) (on .reshaped2 .ensures)
+    (λ h. no .if1 .left (no .before .shape .ensures ∙ h)) (c .before .admitted .ensures) (c .if2 .left)))

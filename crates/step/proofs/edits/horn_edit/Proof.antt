@@ -1,10 +1,8 @@
 -- `step::edits::horn_edit` meets its contract: the pair, or the single letter, lies in the word.
-use mathlib.Core.Path.{sym, ap, _∙_}
+use mathlib.Core.Path.{refl, sym, _∙_}
 use borrow.Author.Needs.{needs}
 use Rattle.rules.specs.Letters.{horn}
-use Rattle.rules.specs.KeyRoles.{Found, asked}
-use Rattle.step.specs.Held.{editedOf}
-use Rattle.step.proofs.Aimings.{horn-pair, pair-aimed, horn-single, single-aimed}
+use Rattle.step.proofs.Aimings.{as-found, horn-pair, pair-aimed, horn-single, single-aimed}
 use Rattle.step.proofs.edits.horn_edit.Statement.{statement}
 use Rattle.step.proofs.edits.horn_edit.Tie as tie
 
@@ -18,13 +16,16 @@ horn-edit-spec =
     (λ c κs. search needs)
     (λ c. search needs)
     (λ c κs.
-    let found = c .before .before .before in
-    let at = found .before .before .before in
-    pair-aimed (at .args .t1) (at .args .count) (at .pre) (sym (found .pair .ensures) ∙ c .before .pair2 .given .1))
+    let place = c .before .before in
+    let found = place .before .before in
+    let at = found .before .before .before .before in
+    pair-aimed (at .args .letters .now) (at .args .count) (at .pre) (sym (found .pair .ensures) ∙ place .pair2 .given .1))
+    (λ c. search needs)
     (λ c.
-    let found = c .before .before .before .before in
-    let at = found .before .before .before in
-    c .both .ensures ∙ ap (λ (f : Found). editedOf (at .args .t1) (asked horn f)) (sym (horn-pair (at .args .t1) (at .args .count) (sym (found .pair .ensures) ∙ c .before .before .pair2 .given .1))))
+    let place = c .before .before .before .before .before in
+    let found = place .before .before in
+    let at = found .before .before .before .before in
+    as-found horn (horn-pair (at .args .letters .now) (at .args .count) (sym (found .pair .ensures) ∙ place .pair2 .given .1)) (c .before .before .both .ensures))
     (λ c. search needs)
     (λ c. search needs)
     (λ c. search needs)
@@ -32,22 +33,23 @@ horn-edit-spec =
     (λ c κs. search needs)
     (λ c. search needs)
     (λ c. search needs)
+    (λ c. search needs)
     (λ c.
     let single = c .before .before in
     let none = single .before .before .before in
     let found = none .before .before in
-    let at = found .before .before .before in
-    ap (λ (f : Found). editedOf (at .args .t1) (asked horn f))
-    (sym (horn-single (at .args .t1) (at .args .count) (sym (found .pair .ensures) ∙ none .enum-told .given .1) (sym (single .single .ensures) ∙ c .enum-told2 .given .1))))
+    let at = found .before .before .before .before in
+    as-found horn (horn-single (at .args .letters .now) (at .args .count) (sym (found .pair .ensures) ∙ none .enum-told .given .1) (sym (single .single .ensures) ∙ c .enum-told2 .given .1)) (record { told = refl; left = refl }))
     (λ c κs.
-    let single = c .before .before .before in
-    let at = single .before .before .before .before .before .before .before .before in
-    single-aimed (at .args .t1) (at .args .count) (at .pre) (sym (single .single .ensures) ∙ c .before .single2 .given .1))
+    let place = c .before .before in
+    let single = place .before .before in
+    let at = single .before .before .before .before .before .before .before .before .before in
+    single-aimed (at .args .letters .now) (at .args .count) (at .pre) (sym (single .single .ensures) ∙ place .single2 .given .1))
+    (λ c. search needs)
     (λ c.
-    let single = c .before .before .before .before in
+    let place = c .before .before .before .before .before in
+    let single = place .before .before in
     let none = single .before .before .before in
     let found = none .before .before in
-    let at = found .before .before .before in
-    c .at .ensures ∙
-    ap (λ (f : Found). editedOf (at .args .t1) (asked horn f))
-    (sym (horn-single (at .args .t1) (at .args .count) (sym (found .pair .ensures) ∙ none .enum-told .given .1) (sym (single .single .ensures) ∙ c .before .before .single2 .given .1)))))
+    let at = found .before .before .before .before in
+    as-found horn (horn-single (at .args .letters .now) (at .args .count) (sym (found .pair .ensures) ∙ none .enum-told .given .1) (sym (single .single .ensures) ∙ place .single2 .given .1)) (c .before .before .at .ensures)))

@@ -9,49 +9,52 @@ use lib.ListN.{take, drop}
 use borrow.Author.Needs.{needs}
 use Rattle.rules.specs.TakingApart.{admitted}
 use Rattle.rules.specs.TheWord.{letter}
-use Rattle.rules.specs.KeyRoles.{strokeEdit}
-use Rattle.step.specs.Held.{editedOf}
-use Rattle.step.proofs.Stored.{from-start}
+use Rattle.step.proofs.Arrays.{is-front}
 use Rattle.step.proofs.Strokes.{stroke-off, stroke-on, stroke-none}
 use Rattle.step.proofs.edits.stroke_edit.Statement.{statement}
 use Rattle.step.proofs.edits.stroke_edit.Tie as tie
 
 -- the test for d, with what was asked
 asks : (n : ℕ) (l : List ℕ) {p q r : Bool} → p ≡ r → q ≡ admitted (map letter (take (n - 0) (drop 0 l))) → p && (eqb n 1 || q) ≡ r && (eqb n 1 || admitted (map letter (take n l)))
-asks n l e f = ap₂ (λ (b c : Bool). b && (eqb n 1 || c)) e (f ∙ from-start n l)
+asks n l e f = ap₂ (λ (b c : Bool). b && (eqb n 1 || c)) e (f ∙ sym (ap admitted (is-front l n)))
 
 pub stroke-edit-spec : {M : Type 1} → statement M
 stroke-edit-spec =
     tie.close
     (tie.spec
-    (λ c. let args = c .before .args in ap (λ (n : ℕ). editedOf (args .t1) (strokeEdit (map letter (take n (args .t1))))) (sym (c .if1 .taken)))
+    (λ c. search needs)
     (λ c. search needs)
     (λ c κs. search needs)
     (λ c κs. search needs)
+    (λ c. search needs)
+    (λ c. search needs)
     (λ c.
     let test = c .before in
-    let some = test .before .before in
-    let at = some .before in
+    let at = test .before .before .before .before .before in
     let h : 0 < at .args .count = omega arith in
-    stroke-off (at .args .t1) (at .args .count) (at .pre) (search needs) h (c .reshaped-at .result) (c .reshaped-at .ensures) (sym (test .before .is-d .ensures) ∙ test .if2 .taken))
-    (λ c. search needs)
+    stroke-off (at .args .letters .now) (at .args .count) (at .pre) h (c .reshaped .result) (c .reshaped .ensures) (sym (test .before .is-d .ensures) ∙ test .if2 .taken))
     (λ c κs. search needs)
     (λ c. search needs)
     (λ c. search needs)
     (λ c. search needs)
     (λ c κs. search needs)
     (λ c κs. search needs)
+    (λ c. search needs)
+    (λ c. search needs)
     (λ c.
-    let plain = c .before .before .before .before .before in
+    let asked = c .before .before in
+    let plain = asked .before .before .before in
     let test = plain .before in
-    let at = test .before .before .before in
+    let at = test .before .before .before .before .before in
     let h : 0 < at .args .count = omega arith in
-    stroke-on (at .args .t1) (at .args .count) (at .pre) (search needs) h (c .reshaped-at2 .result) (c .reshaped-at2 .ensures) (sym (test .before .is-d .ensures) ∙ test .if2 .left)
-    (sym (asks (at .args .count) (at .args .t1) (plain .is-d2 .ensures) (c .before .before .admitted .ensures)) ∙ c .before .if3 .taken))
+    stroke-on (at .args .letters .now) (at .args .count) (at .pre) h (c .reshaped2 .result) (c .reshaped2 .ensures) (sym (test .before .is-d .ensures) ∙ test .if2 .left)
+    (sym (asks (at .args .count) (at .args .letters .now) (plain .is-d2 .ensures) (asked .admitted .ensures)) ∙ c .before .if3 .taken))
+    (λ c. search needs)
     (λ c.
-    let plain = c .before .before .before .before in
+    let asked = c .before in
+    let plain = asked .before .before .before in
     let test = plain .before in
-    let at = test .before .before .before in
+    let at = test .before .before .before .before .before in
     let h : 0 < at .args .count = omega arith in
-    stroke-none (at .args .t1) (at .args .count) (at .pre) (search needs) h (sym (test .before .is-d .ensures) ∙ test .if2 .left)
-    (sym (asks (at .args .count) (at .args .t1) (plain .is-d2 .ensures) (c .before .admitted .ensures)) ∙ c .if3 .left)))
+    stroke-none (at .args .letters .now) (at .args .count) (at .pre) h (sym (test .before .is-d .ensures) ∙ test .if2 .left)
+    (sym (asks (at .args .count) (at .args .letters .now) (plain .is-d2 .ensures) (asked .admitted .ensures)) ∙ c .if3 .left)))

@@ -1,9 +1,9 @@
 -- What is stored by an edit of one letter, or of two, is the edit that the rule says; what is not admitted is put back.
 use mathlib.Core.Path.{_≡_, refl, sym, ap, ap₂, subst, _∙_}
 use mathlib.Core.Bool.{Bool, true, false, _&&_}
-use mathlib.Core.List.{List, _++_, map}
+use mathlib.Core.List.{List, [], _∷_, _++_, map}
 use native.Mathlib.Numerals.{add-one}
-use Prim.Native.Nat.{ℕ, suc, _+_, _-_, _%_, _≤_, _<_}
+use Prim.Native.Nat.{ℕ, zero, suc, _+_, _-_, _%_, _≤_, _<_}
 use native.Mathlib.Omega.{arith}
 use lib.Dec.{eqb, lit<}
 use borrow.Author.Tests.{eq-eqb, ne-eqb}
@@ -13,12 +13,12 @@ use Rattle.rules.specs.Letters.{Letters, plain, horn}
 use Rattle.rules.specs.TakingApart.{admitted}
 use Rattle.rules.specs.TheWord.{letter, number, atFront}
 use Rattle.rules.specs.KeyRoles as Rules
-use Rattle.rules.specs.KeyRoles.{shaped, Found, target, change, onlyIf, asked}
+use Rattle.rules.specs.KeyRoles.{shaped, target, change, onlyIf, asked}
 use Rattle.rules.specs.declared.Act.the-variants.{Shape}
 use Rattle.rules.specs.declared.Place.the-variants.{At}
 use Rattle.targets.specs.Aims.{reshape, shapeAt, oneAt, bothReshaped, pairAt}
 use Rattle.step.specs.declared.Edit.the-variants.{Nothing, Off, Change}
-use Rattle.step.specs.Held.{Canonical, Aimed, Edits}
+use Rattle.step.specs.Held.{Canonical, Aimed, Edits, paired}
 use Rattle.step.proofs.Arrays.{reshapedAt, is-front, shape-at, length-reshape, stored, read-stored, still-canonical}
 
 -- a mark taken off
@@ -110,10 +110,24 @@ module _ (l : List ℕ) (n i kind : ℕ) (aimed : Aimed l n (i + 1) kind) where
   both-read = read-stored first n first-whole first-canonical (i + 1) kind (aimed .inside) (aimed .shape) ∙ both-letters
 
   -- the two stores, each of a letter read before them
-  both-on : (v x : ℕ) → v ≡ number (shaped kind (letter (getD l i 0))) → x ≡ number (shaped kind (letter (getD l (i + 1) 0))) → set (set l i v) (i + 1) x ≡ both
+  both-on : (v x : ℕ) → v ≡ number (shaped kind (letter (getD l i 0))) → x ≡ number (shaped kind (letter (getD l (i + 1) 0))) → paired l i v x ≡ both
   both-on v x e f =
       ap₂ (λ (m : List ℕ) (k : ℕ). set m (i + 1) k) (ap (set l i) e)
       (f ∙ ap (λ (k : ℕ). number (shaped kind (letter k))) (sym (getD-set-other l i (i + 1) (number (shaped kind (letter (getD l i 0)))) 0 (λ h. omega arith))))
+
+-- two letters put back
+set-before : (l : List ℕ) (i a b : ℕ) → set (set l (suc i) b) i a ≡ set (set l i a) (suc i) b
+set-before [] i a b = refl
+set-before (y ∷ l) zero a b = refl
+set-before (y ∷ l) (suc i) a b = ap (_∷_ y) (set-before l i a b)
+
+paired-back : (l : List ℕ) (i v x : ℕ) → paired (paired l i v x) i (getD l i 0) (getD l (i + 1) 0) ≡ l
+paired-back l i v x =
+    let u = getD l i 0 in
+    let o = getD l (i + 1) 0 in
+    ap (λ (m : List ℕ). set m (i + 1) o)
+    (ap (λ (j : ℕ). set (set (set l i v) j x) i u) (add-one i) ∙ set-before (set l i v) i u x ∙ ap (λ (j : ℕ). set (set (set l i v) i u) j x) (sym (add-one i))) ∙
+    set-set (set (set l i v) i u) (i + 1) x o ∙ ap (λ (m : List ℕ). set m (i + 1) o) (set-set l i v u ∙ set-getD l i 0) ∙ set-getD l (i + 1) 0
 
 -- the horn's pair
 module _ (l : List ℕ) (n i : ℕ) (aimed : Aimed l n (i + 1) horn) where
@@ -131,30 +145,25 @@ module _ (l : List ℕ) (n i : ℕ) (aimed : Aimed l n (i + 1) horn) where
       ap₂ (λ (a b : ℕ). eqb a horn && eqb b horn) (shape-there l n i horn at-first)
       (ap (λ (j : ℕ). shapeAt j (map letter (take n l))) (sym (add-one i)) ∙ shape-there l n (i + 1) horn aimed)
 
-  abbrev pair-found : Found
-  pair-found = pairAt (At i) (map letter (take n l))
+  abbrev word-off : Letters
+  word-off = bothReshaped i plain (map letter (take n l))
 
-  pub pair-off : (v x : ℕ) → v ≡ number (shaped plain (letter (getD l i 0))) → x ≡ number (shaped plain (letter (getD l (i + 1) 0))) → shapes ≡ true →
-      Edits (asked horn pair-found) l Off (set (set l i v) (i + 1) x)
-  pair-off v x e f s =
-      off-there l horn (bothReshaped i plain (map letter (take n l))) (bothReshaped i horn (map letter (take n l))) (set (set l i v) (i + 1) x) (flag ∙ s)
-      (both-on l n i plain at-plain v x e f ∙ both-stored l n i plain at-plain)
+  abbrev word-on : Letters
+  word-on = bothReshaped i horn (map letter (take n l))
 
-  module _ (v x : ℕ) (e : v ≡ number (shaped horn (letter (getD l i 0)))) (f : x ≡ number (shaped horn (letter (getD l (i + 1) 0)))) (s : shapes ≡ false) {q : Bool} (p : q ≡ admitted (map letter (take (n - 0) (drop 0 (set (set l i v) (i + 1) x))))) where
-    abbrev two : List ℕ
-    two = set (set l i v) (i + 1) x
+  pub pair-off : (v x : ℕ) (on : List ℕ) → v ≡ number (shaped plain (letter (getD l i 0))) → x ≡ number (shaped plain (letter (getD l (i + 1) 0))) → on ≡ paired l i v x → shapes ≡ true →
+      Edits (asked horn (pairAt (At i) (map letter (take n l)))) l Off on
+  pair-off v x on e f o s = off-there l horn word-off word-on on (flag ∙ s) (o ∙ both-on l n i plain at-plain v x e f ∙ both-stored l n i plain at-plain)
 
-    two-read : map letter (take n (set (set l i v) (i + 1) x)) ≡ bothReshaped i horn (map letter (take n l))
-    two-read = ap (λ (m : List ℕ). map letter (take n m)) (both-on l n i horn aimed v x e f) ∙ both-read l n i horn aimed
+  module _ (v x : ℕ) (on : List ℕ) (e : v ≡ number (shaped horn (letter (getD l i 0)))) (f : x ≡ number (shaped horn (letter (getD l (i + 1) 0)))) (o : on ≡ paired l i v x) (s : shapes ≡ false) {q : Bool} (p : q ≡ admitted (map letter (take (n - 0) (drop 0 on)))) where
+    two : on ≡ reshapedAt (reshapedAt l i horn) (i + 1) horn
+    two = o ∙ both-on l n i horn aimed v x e f
 
-    pub pair-stays : q ≡ true → Edits (asked horn (pairAt (At i) (map letter (take n l)))) l (Change (Shape horn)) (set (set l i v) (i + 1) x)
-    pair-stays t =
-        stays l two n horn (bothReshaped i plain (map letter (take n l))) (bothReshaped i horn (map letter (take n l))) (flag ∙ s) two-read p t
-        (both-on l n i horn aimed v x e f ∙ both-stored l n i horn aimed)
+    two-read : map letter (take n on) ≡ word-on
+    two-read = ap (λ (m : List ℕ). map letter (take n m)) two ∙ both-read l n i horn aimed
 
-    pub pair-back : q ≡ false → Edits (asked horn (pairAt (At i) (map letter (take n l)))) l Nothing (set (set (set (set l i v) (i + 1) x) (i + 1) (getD l (i + 1) 0)) i (getD l i 0))
-    pair-back t =
-        put-back l two n horn (bothReshaped i plain (map letter (take n l))) (bothReshaped i horn (map letter (take n l))) (flag ∙ s) two-read p t _
-        (ap (λ (m : List ℕ). set m i (getD l i 0))
-        (set-set (set l i v) (i + 1) x (getD l (i + 1) 0) ∙ ap (set (set l i v) (i + 1)) (sym (getD-set-other l i (i + 1) v 0 (λ h. omega arith))) ∙ set-getD (set l i v) (i + 1) 0) ∙
-        set-set l i v (getD l i 0) ∙ set-getD l i 0)
+    pub pair-stays : q ≡ true → Edits (asked horn (pairAt (At i) (map letter (take n l)))) l (Change (Shape horn)) on
+    pair-stays t = stays l on n horn word-off word-on (flag ∙ s) two-read p t (two ∙ both-stored l n i horn aimed)
+
+    pub pair-back : q ≡ false → (back : List ℕ) → back ≡ paired on i (getD l i 0) (getD l (i + 1) 0) → Edits (asked horn (pairAt (At i) (map letter (take n l)))) l Nothing back
+    pair-back t back h = put-back l on n horn word-off word-on (flag ∙ s) two-read p t back (h ∙ ap (λ (m : List ℕ). paired m i (getD l i 0) (getD l (i + 1) 0)) o ∙ paired-back l i v x)

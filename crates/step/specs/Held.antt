@@ -1,9 +1,9 @@
 -- What a rule of document 01 leaves in the array of letters and in the state beside it, and the step's two answers. Only contracts of private functions cite what stands here.
 use mathlib.Core.Path.{_≡_}
 use mathlib.Core.List.{List, map}
-use Prim.Native.Nat.{ℕ, _≤_, _<_}
+use Prim.Native.Nat.{ℕ, _+_, _≤_, _<_}
 use Prim.Native.Char.{code}
-use lib.ListN.{length, take}
+use lib.ListN.{length, take, set}
 use Rattle.rules.specs.Letters.{Letter, small}
 use Rattle.rules.specs.TheWord.{State, Done, acted, undone, appended, stateOf, outcomeOf, oneMore, isActed, isUndone, isAppended, mostKeys, letter, number, atFront, wordOf, holding, counted}
 use Rattle.rules.proofs.Numbers.{AllFine}
@@ -46,6 +46,10 @@ pub record Ready (w : Word) : Type 0 where
   pub fewer : w .count ≤ w .typed
   pub canonical : Canonical (take (w .count) (w .letters))
   pub fine : AllFine (w .mode) (wordOf w .state .letters)
+
+-- a letter and the next, stored
+abbrev pub paired : List ℕ → ℕ → ℕ → ℕ → List ℕ
+paired l i a b = set (set l i a) (i + 1) b
 
 -- the letter d in a shape
 abbrev pub dee : ℕ → Letter

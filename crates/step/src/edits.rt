@@ -12,13 +12,13 @@ use rules::ShapeKey;
 ghost use mathlib.Core.Path.{_≡_};
 ghost use mathlib.Core.List.{map};
 ghost use Prim.Native.Nat.{_+_, _<_};
-ghost use lib.ListN.{take};
+ghost use lib.ListN.{length, take};
 ghost use Rattle.rules.specs.Letters.{horn, is};
 ghost use Rattle.rules.specs.TheWord.{letter};
 ghost use Rattle.rules.specs.KeyRoles.{asked as askedOf, last, horned, shapeEdit, strokeEdit};
 ghost use Rattle.targets.specs.Places.{wanted};
 ghost use Rattle.targets.specs.Aims.{oneAt, pairAt};
-ghost use Rattle.step.specs.Held.{Given, Aimed, Edits, dee};
+ghost use Rattle.step.specs.Held.{Given, Aimed, Edits, paired, dee};
 
 // A shape on the letter at a place: taken off if it is there already.
 fn at(letters: &mut [u16], count: usize, i: usize, kind: u8) -> Edit
@@ -39,26 +39,41 @@ fn at(letters: &mut [u16], count: usize, i: usize, kind: u8) -> Edit
     Edit::Nothing
 }
 
+// A letter and the next, stored.
+fn put_pair(letters: &mut [u16], i: usize, first: u16, second: u16)
+    requires { ⌜ i + 1 < length (now letters) ⌝ }
+    ensures { λ r. ⌜ now (letters .exit) ≡ paired (now (letters .entry)) i first second ⌝ }
+{
+    letters[i] = first;
+    letters[i + 1] = second;
+}
+
 // A horn on a letter and the next, both together: taken off if both have it already.
 fn both(letters: &mut [u16], count: usize, i: usize) -> Edit
     requires { ⌜ Aimed (now letters) count (i + 1) horn ⌝ }
     ensures { λ r. ⌜ Edits (askedOf horn (pairAt (Place.At i) (map letter (take count (now (letters .entry)))))) (now (letters .entry)) r (now (letters .exit)) ⌝ }
 {
-    let j = i + 1;
     let u = letters[i];
-    let o = letters[j];
+    let o = letters[i + 1];
     if (parts::shape(u) == HORN) & (parts::shape(o) == HORN) {
-        letters[i] = targets::reshaped(u, PLAIN);
-        letters[j] = targets::reshaped(o, PLAIN);
+        put_pair(
+            letters,
+            i,
+            targets::reshaped(u, PLAIN),
+            targets::reshaped(o, PLAIN),
+        );
         return Edit::Off;
     }
-    letters[i] = targets::reshaped(u, HORN);
-    letters[j] = targets::reshaped(o, HORN);
+    put_pair(
+        letters,
+        i,
+        targets::reshaped(u, HORN),
+        targets::reshaped(o, HORN),
+    );
     if syllable::admitted(&letters[0..count]) {
         return Edit::Change(Act::Shape(HORN));
     }
-    letters[j] = o;
-    letters[i] = u;
+    put_pair(letters, i, u, o);
     Edit::Nothing
 }
 

@@ -4,13 +4,13 @@ use mathlib.Core.List.{List, [], _∷_, _++_, map, append-assoc, map-append, hea
 use Prim.Native.Nat.{ℕ, zero, suc, _-_, _%_, _≤_, _<_}
 use native.Mathlib.Numerals.{add-one}
 use native.Mathlib.Omega.{arith}
-use lib.ListN.{length, take, drop, set, getD, length-map, length-append, take-append-drop}
+use lib.ListN.{length, take, drop, set, getD, length-set, length-map, length-append, take-append-drop}
 use lib.Seq.{set-append-left, set-split, length-take-le, getD-take, take-set-lt, take-at}
 use Rattle.rules.specs.Letters.{Letter, Letters}
 use Rattle.rules.specs.TheWord.{letter, number, atFront}
 use Rattle.rules.specs.KeyRoles.{shaped}
 use Rattle.rules.proofs.Numbers.{of-number, AllFine, letters-numbers}
-use Rattle.step.specs.Held.{Canonical}
+use Rattle.step.specs.Held.{Canonical, Given}
 use Rattle.targets.specs.Aims.{reshape, shapeAt}
 
 -- the numbers with another shape at a place
@@ -52,9 +52,12 @@ shape-at (n ∷ ns) (suc i) h = shape-at ns i (omega arith)
 reshaped-letter : (n sh : ℕ) → sh < 8 → letter (number (shaped sh (letter n))) ≡ shaped sh (letter n)
 reshaped-letter n sh h = of-number (n % 256) sh (letter n .capital) (omega arith) h
 
-module _ (l : List ℕ) (n : ℕ) (fits : n ≤ length l) (c : Canonical (take n l)) where
+module _ (l : List ℕ) (n : ℕ) (given : Given l n) where
   abbrev word : Letters
   word = map letter (take n l)
+
+  pub within : n ≤ length l
+  within = omega (arith, given .whole, given .fits)
 
   front : (ms : List ℕ) → length ms ≡ n → atFront ms l ≡ ms ++ drop n l
   front ms e = ap (λ (k : ℕ). ms ++ drop k l) e
@@ -62,10 +65,10 @@ module _ (l : List ℕ) (n : ℕ) (fits : n ≤ length l) (c : Canonical (take n
   pub stored : (i sh : ℕ) → i < n → reshapedAt l i sh ≡ atFront (map number (reshape i sh word)) l
   stored i sh h =
       let v = number (shaped sh (letter (getD l i 0))) in
-      let len : length (take n l) ≡ n = length-take-le n l fits in
+      let len : length (take n l) ≡ n = length-take-le n l within in
       ap (λ (m : List ℕ). set m i v) (sym (take-append-drop n l)) ∙ set-append-left (take n l) (drop n l) i v (omega arith) ∙
       ap (λ (m : List ℕ). m ++ drop n l)
-      (ap (λ (k : ℕ). set (take n l) i (number (shaped sh (letter k)))) (sym (getD-take n l i 0 h)) ∙ sym (number-reshape (take n l) i sh c)) ∙
+      (ap (λ (k : ℕ). set (take n l) i (number (shaped sh (letter k)))) (sym (getD-take n l i 0 h)) ∙ sym (number-reshape (take n l) i sh (given .canonical))) ∙
       sym (front (map number (reshape i sh word)) (length-map (reshape i sh word) number ∙ length-reshape i sh word ∙ length-map (take n l) letter ∙ len))
 
   pub read-stored : (i sh : ℕ) → i < n → sh < 8 → map letter (take n (reshapedAt l i sh)) ≡ reshape i sh word
@@ -73,16 +76,20 @@ module _ (l : List ℕ) (n : ℕ) (fits : n ≤ length l) (c : Canonical (take n
       let v = number (shaped sh (letter (getD l i 0))) in
       ap (map letter) (take-set-lt n l i v h) ∙ letter-reshape (take n l) i sh v (reshaped-letter (getD l i 0) sh s ∙ ap (λ (k : ℕ). shaped sh (letter k)) (sym (getD-take n l i 0 h)))
 
-  pub still-canonical : (i sh : ℕ) → i < n → sh < 8 → Canonical (take n (reshapedAt l i sh))
-  still-canonical i sh h s =
-      let v = number (shaped sh (letter (getD l i 0))) in
-      ap (map number) (read-stored i sh h s) ∙ number-reshape (take n l) i sh c ∙
-      ap (λ (k : ℕ). set (take n l) i (number (shaped sh (letter k)))) (getD-take n l i 0 h) ∙ sym (take-set-lt n l i v h)
+  pub still-given : (i sh : ℕ) → i < n → sh < 8 → Given (reshapedAt l i sh) n
+  still-given i sh h s =
+      record {
+        whole = simp length-set (given .whole);
+        fits = given .fits;
+        canonical =
+            ap (map number) (read-stored i sh h s) ∙ number-reshape (take n l) i sh (given .canonical) ∙
+            ap (λ (k : ℕ). set (take n l) i (number (shaped sh (letter k)))) (getD-take n l i 0 h) ∙ sym (take-set-lt n l i _ h);
+      }
 
   pub added : (x : Letter) → n < length l → set l n (number x) ≡ atFront (map number (word ++ (x ∷ []))) l
   added x h =
-      let len : length (take n l) ≡ n = length-take-le n l fits in
-      let e : map number (word ++ (x ∷ [])) ≡ take n l ++ (number x ∷ []) = map-append number word (x ∷ []) ∙ ap (λ (m : List ℕ). m ++ (number x ∷ [])) c in
+      let len : length (take n l) ≡ n = length-take-le n l within in
+      let e : map number (word ++ (x ∷ [])) ≡ take n l ++ (number x ∷ []) = map-append number word (x ∷ []) ∙ ap (λ (m : List ℕ). m ++ (number x ∷ [])) (given .canonical) in
       let k : length (take n l ++ (number x ∷ [])) ≡ suc n = simp (length-append, add-one) (ap suc len) in
       set-split l n (number x) h ∙ sym (append-assoc (take n l) (number x ∷ []) (drop (suc n) l)) ∙
       sym (ap (λ (m : List ℕ). atFront m l) e ∙ ap (λ (j : ℕ). (take n l ++ (number x ∷ [])) ++ drop j l) k)

@@ -27,19 +27,16 @@ use Rattle.step.specs.declared.Counts.{Counts}
 use Rattle.step.specs.declared.Done as Answer
 use Rattle.step.specs.Held.{Given, Room, Leaves, Does, Edits, kindOf, editedIn, stateIn, afterEdit, withTone, countedIn}
 use Rattle.step.proofs.Edit as Kinds
-use Rattle.step.proofs.Arrays.{added, front-letters, front-canonical}
+use Rattle.step.proofs.Arrays.{within, added, front-letters, front-canonical}
 
 -- the same letters, written again
 module _ (l : List ℕ) (rest : Rest) (given : Given l (rest .count)) where
-  there : rest .count ≤ length l
-  there = omega (arith, given .whole, given .fits)
-
   letters-read : length (map letter (take (rest .count) l)) ≡ rest .count
-  letters-read = length-map (take (rest .count) l) letter ∙ length-take-le (rest .count) l there
+  letters-read = length-map (take (rest .count) l) letter ∙ length-take-le (rest .count) l (within l (rest .count) given)
 
   same-array : atFront (map number (map letter (take (rest .count) l))) l ≡ l
   same-array =
-      ap (λ (m : List ℕ). atFront m l) (given .canonical) ∙ ap (λ (k : ℕ). take (rest .count) l ++ drop k l) (length-take-le (rest .count) l there) ∙
+      ap (λ (m : List ℕ). atFront m l) (given .canonical) ∙ ap (λ (k : ℕ). take (rest .count) l ++ drop k l) (length-take-le (rest .count) l (within l (rest .count) given)) ∙
       take-append-drop (rest .count) l
 
   pub same : Leaves (stateIn l rest) l rest l
@@ -58,7 +55,7 @@ module _ (l : List ℕ) (rest : Rest) (room : Room l (rest .count)) where
         beside = λ i. record { count = n i; tone = rest .tone; closed = rest .closed };
         left =
             ap (set l (rest .count)) e ∙
-            added l (rest .count) (there l rest (room .given)) (room .given .canonical) x (omega (arith, room .given .whole, room .room));
+            added l (rest .count) (room .given) x (omega (arith, room .given .whole, room .room));
       }
 
 -- what is left, with its outcome

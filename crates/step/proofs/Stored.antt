@@ -3,11 +3,11 @@ use mathlib.Core.Path.{_≡_, refl, sym, ap, ap₂, subst, _∙_}
 use mathlib.Core.Bool.{Bool, true, false, _&&_}
 use mathlib.Core.List.{List, [], _∷_, _++_, map}
 use native.Mathlib.Numerals.{add-one}
-use Prim.Native.Nat.{ℕ, zero, suc, _+_, _-_, _%_, _≤_, _<_}
+use Prim.Native.Nat.{ℕ, zero, suc, _+_, _-_, _%_, _<_}
 use native.Mathlib.Omega.{arith}
 use lib.Dec.{eqb, lit<}
 use borrow.Author.Tests.{eq-eqb, ne-eqb}
-use lib.ListN.{length, take, drop, set, getD, length-set, length-map}
+use lib.ListN.{length, take, drop, set, getD, length-map}
 use lib.Seq.{getD-take, getD-set-other, set-set, set-getD, length-take-le, drop-set-lt}
 use Rattle.rules.specs.Letters.{Letters, plain, horn}
 use Rattle.rules.specs.TakingApart.{admitted}
@@ -18,8 +18,8 @@ use Rattle.rules.specs.declared.Act.the-variants.{Shape}
 use Rattle.rules.specs.declared.Place.the-variants.{At}
 use Rattle.targets.specs.Aims.{reshape, shapeAt, oneAt, bothReshaped, pairAt}
 use Rattle.step.specs.declared.Edit.the-variants.{Nothing, Off, Change}
-use Rattle.step.specs.Held.{Canonical, Aimed, Edits, paired}
-use Rattle.step.proofs.Arrays.{reshapedAt, is-front, shape-at, length-reshape, stored, read-stored, still-canonical}
+use Rattle.step.specs.Held.{Given, Aimed, Edits, paired}
+use Rattle.step.proofs.Arrays.{reshapedAt, is-front, within, shape-at, length-reshape, stored, read-stored, still-given}
 
 -- a mark taken off
 off-there : (l : List ℕ) (kind : ℕ) (v w : Letters) (on : List ℕ) {b : Bool} → b ≡ true → on ≡ atFront (map number v) l → Edits (asked kind (target b v w)) l Off on
@@ -41,18 +41,15 @@ module _ (l : List ℕ) (n i kind : ℕ) (aimed : Aimed l n i kind) where
   abbrev word : Letters
   word = map letter (take n l)
 
-  there : n ≤ length l
-  there = omega (arith, aimed .given .whole, aimed .given .fits)
-
   shape-there : shapeAt i (map letter (take n l)) ≡ letter (getD l i 0) .shape
   shape-there =
-      shape-at (take n l) i (omega (arith, length-take-le n l there, aimed .inside)) ∙ ap (λ (k : ℕ). letter k .shape) (getD-take n l i 0 (aimed .inside))
+      shape-at (take n l) i (omega (arith, length-take-le n l (within l n (aimed .given)), aimed .inside)) ∙ ap (λ (k : ℕ). letter k .shape) (getD-take n l i 0 (aimed .inside))
 
   -- the mark is there already
   pub taken-off : (v : ℕ) → v ≡ number (shaped plain (letter (getD l i 0))) → letter (getD l i 0) .shape ≡ kind → Edits (asked kind (oneAt kind (At i) (map letter (take n l)))) l Off (set l i v)
   taken-off v e s =
       off-there l kind (reshape i plain word) (reshape i kind word) (set l i v) (eq-eqb (shapeAt i word) kind (shape-there ∙ s))
-      (ap (set l i) e ∙ stored l n there (aimed .given .canonical) i plain (aimed .inside))
+      (ap (set l i) e ∙ stored l n (aimed .given) i plain (aimed .inside))
 
   -- it is not
   module _ (v : ℕ) (e : v ≡ number (shaped (kind % 8) (letter (getD l i 0)))) (s : letter (getD l i 0) .shape ≡ kind → ⊥) {q : Bool} (p : q ≡ admitted (map letter (take (n - 0) (drop 0 (set l i v))))) where
@@ -63,10 +60,10 @@ module _ (l : List ℕ) (n i kind : ℕ) (aimed : Aimed l n i kind) where
     not-there = ne-eqb (shapeAt i word) kind (λ h. s (sym shape-there ∙ h))
 
     read : map letter (take n (set l i v)) ≡ reshape i kind word
-    read = ap (λ (m : List ℕ). map letter (take n m)) on ∙ read-stored l n there (aimed .given .canonical) i kind (aimed .inside) (aimed .shape)
+    read = ap (λ (m : List ℕ). map letter (take n m)) on ∙ read-stored l n (aimed .given) i kind (aimed .inside) (aimed .shape)
 
     pub one-stays : q ≡ true → Edits (asked kind (oneAt kind (At i) (map letter (take n l)))) l (Change (Shape kind)) (set l i v)
-    one-stays t = stays l (set l i v) n kind (reshape i plain word) (reshape i kind word) not-there read p t (on ∙ stored l n there (aimed .given .canonical) i kind (aimed .inside))
+    one-stays t = stays l (set l i v) n kind (reshape i plain word) (reshape i kind word) not-there read p t (on ∙ stored l n (aimed .given) i kind (aimed .inside))
 
     pub one-back : q ≡ false → Edits (asked kind (oneAt kind (At i) (map letter (take n l)))) l Nothing (set (set l i v) i (getD l i 0))
     one-back t = put-back l (set l i v) n kind (reshape i plain word) (reshape i kind word) not-there read p t _ (set-set l i v (getD l i 0) ∙ set-getD l i 0)
@@ -80,9 +77,6 @@ module _ (l : List ℕ) (n i kind : ℕ) (aimed : Aimed l n (i + 1) kind) where
   abbrev letters : Letters
   letters = map letter (take n l)
 
-  fits : n ≤ length l
-  fits = omega (arith, aimed .given .whole, aimed .given .fits)
-
   before : i < n
   before = omega (arith, aimed .inside)
 
@@ -92,22 +86,19 @@ module _ (l : List ℕ) (n i kind : ℕ) (aimed : Aimed l n (i + 1) kind) where
   abbrev both : List ℕ
   both = reshapedAt first (i + 1) kind
 
-  first-whole : n ≤ length first
-  first-whole = simp length-set fits
-
-  first-canonical : Canonical (take n first)
-  first-canonical = still-canonical l n fits (aimed .given .canonical) i kind before (aimed .shape)
+  first-given : Given first n
+  first-given = still-given l n (aimed .given) i kind before (aimed .shape)
 
   both-letters : reshape (i + 1) kind (map letter (take n first)) ≡ bothReshaped i kind letters
-  both-letters = ap₂ (λ (j : ℕ) (w : Letters). reshape j kind w) (add-one i) (read-stored l n fits (aimed .given .canonical) i kind before (aimed .shape))
+  both-letters = ap₂ (λ (j : ℕ) (w : Letters). reshape j kind w) (add-one i) (read-stored l n (aimed .given) i kind before (aimed .shape))
 
   both-stored : both ≡ atFront (map number (bothReshaped i kind letters)) l
   both-stored =
-      stored first n first-whole first-canonical (i + 1) kind (aimed .inside) ∙ ap (λ (w : Letters). atFront (map number w) first) both-letters ∙
-      same-behind (map number (bothReshaped i kind letters)) l i _ (simp (length-map, length-reshape, length-take-le n l fits) before)
+      stored first n first-given (i + 1) kind (aimed .inside) ∙ ap (λ (w : Letters). atFront (map number w) first) both-letters ∙
+      same-behind (map number (bothReshaped i kind letters)) l i _ (simp (length-map, length-reshape, length-take-le n l (within l n (aimed .given))) before)
 
   both-read : map letter (take n both) ≡ bothReshaped i kind letters
-  both-read = read-stored first n first-whole first-canonical (i + 1) kind (aimed .inside) (aimed .shape) ∙ both-letters
+  both-read = read-stored first n first-given (i + 1) kind (aimed .inside) (aimed .shape) ∙ both-letters
 
   -- the two stores, each of a letter read before them
   both-on : (v x : ℕ) → v ≡ number (shaped kind (letter (getD l i 0))) → x ≡ number (shaped kind (letter (getD l (i + 1) 0))) → paired l i v x ≡ both

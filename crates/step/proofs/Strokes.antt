@@ -15,7 +15,7 @@ use Rattle.rules.specs.declared.Act.the-variants.{Stroke}
 use Rattle.targets.specs.Aims.{reshape}
 use Rattle.step.specs.declared.Edit.the-variants.{Nothing, Off, Change}
 use Rattle.step.specs.Held.{Given, Edits, dee}
-use Rattle.step.proofs.Arrays.{stored}
+use Rattle.step.proofs.Arrays.{within, stored}
 
 -- the first letter, and the others
 record FirstOf (l : List ℕ) (n : ℕ) : Type 0 where
@@ -43,11 +43,8 @@ module _ (l : List ℕ) (n : ℕ) (given : Given l n) (some : 0 < n) where
   abbrev acts : Bool
   acts = is x (dee plain) && (eqb n 1 || admitted word)
 
-  there : n ≤ length l
-  there = omega (arith, given .whole, given .fits)
-
   stroke-is : {b c : Bool} → is x (dee stroke) ≡ b → acts ≡ c → strokeEdit word ≡ struck b c
-  stroke-is d a = split-is (first-of l n some there) ∙ ap₂ struck d a
+  stroke-is d a = split-is (first-of l n some (within l n given)) ∙ ap₂ struck d a
     where
       split-is : FirstOf l n → strokeEdit word ≡ struck (is x (dee stroke)) acts
       split-is f =
@@ -56,7 +53,7 @@ module _ (l : List ℕ) (n : ℕ) (given : Given l n) (some : 0 < n) where
           ap (λ (w : Letters). first (onlyIf (is x (dee stroke)) (off (reshape 0 plain w))) (onlyIf (is x (dee plain) && (eqb n 1 || admitted w)) (change Stroke (reshape 0 stroke w)))) (sym (f .split))
 
   first-stored : (kind v : ℕ) → v ≡ number (shaped kind x) → set l 0 v ≡ atFront (map number (reshape 0 kind word)) l
-  first-stored kind v e = ap (set l 0) e ∙ stored l n there (given .canonical) 0 kind some
+  first-stored kind v e = ap (set l 0) e ∙ stored l n given 0 kind some
 
   pub stroke-off : (v : ℕ) → v ≡ number (shaped plain x) → is x (dee stroke) ≡ true → Edits (strokeEdit word) l Off (set l 0 v)
   stroke-off v e d = subst (λ (k : Edit). Edits k l Off (set l 0 v)) (sym (stroke-is d refl)) (record { told = refl; left = first-stored plain v e })

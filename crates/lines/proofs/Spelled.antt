@@ -8,7 +8,6 @@ use native.Mathlib.Omega.{arith}
 use borrow.Author.Tests.{lt-ltb, le-ltb, ltb-true, ltb-false, leb-true}
 use lib.Dec.{T, eqb, leb, ltb, nltb→le, lit≤}
 use lib.ListN.{length, drop, set, length-append, length-drop}
-use lib.Seq.{take-at}
 use lib.Ieee.Fits.{and-l, and-r}
 use Rattle.rules.specs.Letters.{plain, noTone}
 use Rattle.rules.specs.TheWord.{mostBytes, atFront}
@@ -23,6 +22,7 @@ use Rattle.rules.specs.declared.Refusal.{Refusal}
 use Rattle.rules.specs.declared.WriteAnswer.{WriteAnswer}
 use Rattle.rules.specs.declared.WriteAnswer.the-variants.{Wrote, Refused}
 use Rattle.rules.proofs.Tests.{is-true}
+use Rattle.rules.proofs.StaysInRange.{read-front}
 use Rattle.rules.proofs.Refused.{NoneHolds, not-this, refusal-none}
 use Rattle.lines.specs.Appending.{Appends, mostInLine}
 use Rattle.lines.proofs.Columns.{and-then, byte-put}
@@ -35,7 +35,7 @@ keys-line keys out h = and-then in-front (byte-put (atFront keys out) (length ke
     as-long = simp (length-append, length-drop) (omega (arith, h))
 
     in-front : Appends out (atFront keys out) 0 (length keys) keys
-    in-front = record { moved = omega arith; within = omega (arith, as-long, h); long = as-long; front = take-at keys (drop (length keys) out) (length keys) refl }
+    in-front = record { moved = omega arith; within = omega (arith, as-long, h); long = as-long; front = read-front keys out (length keys) refl }
 
 -- a text has no more letters than bytes, and a byte where no letter starts stands within it
 abbrev many : Reading → ℕ

@@ -7,8 +7,7 @@ use Prim.Native.Nat.{ℕ, suc, _+_, _-_, _≤_, _<_}
 use native.Mathlib.Omega.{arith}
 use borrow.Author.Tests.{ltb-false}
 use lib.Dec.{T, ltb, lit≤}
-use lib.ListN.{length, take, drop, length-take, length-map}
-use lib.Seq.{take-at}
+use lib.ListN.{length, take, length-take, length-map}
 use Rattle.rules.specs.Letters.{Letters}
 use Rattle.rules.specs.TakingApart.{verdict}
 use Rattle.rules.specs.TonePlace.{tonePlace}
@@ -26,6 +25,7 @@ use Rattle.rules.specs.declared.TypeAnswer.the-variants.{Refused as TypeRefused
 use Rattle.rules.specs.declared.Decision.{Decision}
 use Rattle.rules.specs.declared.Place.{Place}
 use Rattle.rules.specs.declared.Place.the-variants.{At, Nowhere}
+use Rattle.rules.proofs.StaysInRange.{read-front}
 use Rattle.rules.proofs.Answering.{refused-as, not-refused, typed-word}
 use Rattle.rules.proofs.TonePlaces.{place-in-word}
 use Rattle.rules.proofs.Range.{in-range, few-letters}
@@ -43,7 +43,7 @@ module _ (w : Word) (e : outOfRange w ≡ false) where
 
   -- what the line of the word is made of
   pub front-of : (n : ℕ) (buffer old : List ℕ) → n ≡ length its-text → buffer ≡ atFront its-text old → take (n - 0) buffer ≡ its-text
-  front-of n buffer old m b = let l : length its-text ≡ n - 0 = omega arith in ap (take (n - 0)) b ∙ take-at its-text (drop (length its-text) old) (n - 0) l
+  front-of n buffer old m b = let l : length its-text ≡ n - 0 = omega arith in ap (take (n - 0)) b ∙ read-front its-text old (n - 0) l
 
   pub place-fits : (p : Place) → p ≡ tonePlace (wordOf w .state .letters) (w .tone) → SmallPlace p
   place-fits p f = place-small (wordOf w .state .letters) (w .tone) (simp (length-map, length-take) (omega (arith, few-letters w e))) p (sym f)

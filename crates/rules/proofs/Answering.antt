@@ -7,8 +7,7 @@ use Prim.Native.Nat.{ℕ, _+_, _-_, _≤_}
 use native.Mathlib.Omega.{arith}
 use borrow.Author.Tests.{le-ltb}
 use lib.Dec.{nltb→le}
-use lib.ListN.{length, take, drop}
-use lib.Seq.{take-at}
+use lib.ListN.{length, take}
 use Rattle.rules.specs.TakingApart.{verdict}
 use Rattle.rules.specs.TonePlace.{tonePlace}
 use Rattle.rules.specs.TheWord.{mostKeys, mostBytes, newWord, wordOf, atFront, holding}
@@ -37,6 +36,7 @@ use Rattle.rules.specs.declared.Decision.{Decision}
 use Rattle.rules.specs.declared.Place.{Place}
 use Rattle.rules.proofs.Tests.{is-false}
 use Rattle.rules.proofs.Refused.{NoneHolds, not-this, refusal-none}
+use Rattle.rules.proofs.StaysInRange.{read-front}
 use Rattle.rules.proofs.Records.{word-held}
 use Rattle.rules.proofs.Typing.{Held, new-held, list-held}
 use Rattle.rules.proofs.Range.{not-not}
@@ -75,7 +75,7 @@ module _ (w : Word) (range : outOfRange w ≡ false) where
       pub its-front : (buffer : List ℕ) → buffer ≡ show w out .output → take (n - 0) buffer ≡ its-text
       its-front buffer b =
           let m : length its-text ≡ n - 0 = omega (arith, so-long) in
-          ap (take (n - 0)) (b ∙ ap (λ (y : Written). y .output) (shows out room)) ∙ take-at its-text (drop (length its-text) out) (n - 0) m
+          ap (take (n - 0)) (b ∙ ap (λ (y : Written). y .output) (shows out room)) ∙ read-front its-text out (n - 0) m
 
     pub in-front : show w out .output ≡ atFront its-text out
     in-front = ap (λ (y : Written). y .output) (shows out room)

@@ -5,8 +5,7 @@ use mathlib.Core.List.{List, map}
 use Prim.Native.Nat.{ℕ, _-_, _≤_, _<_}
 use native.Mathlib.Omega.{arith}
 use borrow.Author.Tests.{lt-ltb, le-ltb}
-use lib.ListN.{length, take, drop, length-take}
-use lib.Seq.{take-at}
+use lib.ListN.{length, take, length-take}
 use Rattle.rules.specs.TheWord.{letter, wordOf, atFront, mostKeys, mostBytes}
 use Rattle.rules.specs.TonePlace.{tonePlace}
 use Rattle.rules.specs.CodePoints.{shown}
@@ -15,6 +14,7 @@ use Rattle.rules.specs.WhatComesBack.{show}
 use Rattle.rules.specs.declared.Word.{Word}
 use Rattle.rules.specs.declared.Place.{Place}
 use Rattle.rules.specs.declared.WriteAnswer.the-variants.{Wrote, Refused}
+use Rattle.rules.proofs.StaysInRange.{read-front}
 use Rattle.rules.proofs.Range.{few-letters}
 use Rattle.output.specs.Front.{put}
 use Rattle.show.specs.Filling.{textFrom, textOf, textOut}
@@ -39,7 +39,7 @@ module _ (ns : List ℕ) (t : ℕ) (out : List ℕ) where
     put-so buffer old at b =
         let made = textFrom p t 0 ns in
         let m : length made ≡ n - 0 = omega arith in
-        ap (λ (l : List ℕ). put l out) (ap (take (n - 0)) b ∙ take-at made (drop (length made) old) (n - 0) m ∙ ap (λ (q : Place). textFrom q t 0 ns) at) ∙ sym (few-enough few)
+        ap (λ (l : List ℕ). put l out) (ap (take (n - 0)) b ∙ read-front made old (n - 0) m ∙ ap (λ (q : Place). textFrom q t 0 ns) at) ∙ sym (few-enough few)
 
     -- with room for any text it is made where it is put
     pub made-there : (after : List ℕ) → mostBytes ≤ length out → p ≡ tonePlace (map letter ns) t → after ≡ atFront (textFrom p t 0 ns) out → textOut ns t out ≡ record { answer = Wrote n; output = after }

@@ -5,10 +5,11 @@ use Prim.Native.Nat.{ℕ, zero, suc, _-_, _%_, _≤_, _<_}
 use native.Mathlib.Numerals.{add-one}
 use native.Mathlib.Omega.{arith}
 use lib.ListN.{length, take, drop, set, getD, length-set, length-map, length-append, take-append-drop}
-use lib.Seq.{set-append-left, set-split, length-take-le, getD-take, take-set-lt, take-at}
+use lib.Seq.{set-append-left, set-split, length-take-le, getD-take, take-set-lt}
 use Rattle.rules.specs.Letters.{Letter, Letters}
 use Rattle.rules.specs.TheWord.{letter, number, atFront}
 use Rattle.rules.specs.KeyRoles.{shaped}
+use Rattle.rules.proofs.StaysInRange.{read-front}
 use Rattle.rules.proofs.Numbers.{of-number, AllFine, letters-numbers}
 use Rattle.step.specs.Held.{Canonical, Given}
 use Rattle.targets.specs.Aims.{reshape, shapeAt}
@@ -96,7 +97,7 @@ module _ (l : List ℕ) (n : ℕ) (given : Given l n) where
 
 -- letters at the front of an array are read again
 front-numbers : (l : List ℕ) (n : ℕ) (ws : Letters) → length ws ≡ n → take n (atFront (map number ws) l) ≡ map number ws
-front-numbers l n ws e = take-at (map number ws) (drop (length (map number ws)) l) n (length-map ws number ∙ e)
+front-numbers l n ws e = read-front (map number ws) l n (length-map ws number ∙ e)
 
 pub front-letters : {mode : ℕ} (l : List ℕ) (n : ℕ) (ws : Letters) → AllFine mode ws → length ws ≡ n → map letter (take n (atFront (map number ws) l)) ≡ ws
 front-letters l n ws f e = ap (map letter) (front-numbers l n ws e) ∙ letters-numbers f

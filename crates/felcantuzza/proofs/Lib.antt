@@ -1,2 +1,3 @@
+pub mod Rooms
 pub mod Tells
 pub mod One

@@ -13,6 +13,7 @@ use rules::Refusal;
 use rules::StartAnswer;
 use rules::StepAnswer;
 use rules::VerdictAnswer;
+use rules::Word;
 use rules::WriteAnswer;
 ghost use mathlib.Core.Path.{_≡_};
 ghost use Rattle.rules.specs.AnswersInNumbers.{outcomeNumbers, placeNumbers, decisionNumber};
@@ -121,14 +122,8 @@ pub extern "C" fn fz_type(lent: &mut [u8], key: u8, value: &mut usize) -> u8
     }
 }
 
-// A key typed and the word shown, with one range check; the value is the bytes written. Refusals: 8, 2, 3, 4.
-#[no_mangle]
-pub extern "C" fn fz_type_and_show(
-    lent: &mut [u8],
-    key: u8,
-    out: &mut [u8],
-    value: &mut usize,
-) -> u8
+// A key typed and the word shown, into an output that may be too short: the old record is kept until its length is known.
+fn type_and_show_short(lent: &mut [u8], key: u8, out: &mut [u8], value: &mut usize) -> u8
     ensures { λ r. ⌜ (r ≡ Calls.returned (Calls.typeAndShow (now (lent .entry)) key (now (out .entry)))) × (now (value .exit) ≡ Calls.value Calls.single (Calls.typeAndShow (now (lent .entry)) key (now (out .entry)))) × (now (lent .exit) ≡ Calls.typeAndShowWord (now (lent .entry)) key (now (out .entry))) × (now (out .exit) ≡ Calls.typeAndShowOutput (now (lent .entry)) key (now (out .entry))) ⌝ }
 {
     let reading = layout::read(lent);
@@ -145,6 +140,38 @@ pub extern "C" fn fz_type_and_show(
             answered(bytes, value)
         }
         ShownAnswer::Refused(refusal) => refused(refusal, value),
+    }
+}
+
+// A key typed and the word shown, with one range check; the value is the bytes written. Refusals: 8, 2, 3, 4.
+#[no_mangle]
+pub extern "C" fn fz_type_and_show(
+    lent: &mut [u8],
+    key: u8,
+    out: &mut [u8],
+    value: &mut usize,
+) -> u8
+    ensures { λ r. ⌜ (r ≡ Calls.returned (Calls.typeAndShow (now (lent .entry)) key (now (out .entry)))) × (now (value .exit) ≡ Calls.value Calls.single (Calls.typeAndShow (now (lent .entry)) key (now (out .entry)))) × (now (lent .exit) ≡ Calls.typeAndShowWord (now (lent .entry)) key (now (out .entry))) × (now (out .exit) ≡ Calls.typeAndShowOutput (now (lent .entry)) key (now (out .entry))) ⌝ }
+{
+    if out.len() < Word::TEXT {
+        return type_and_show_short(lent, key, out, value);
+    }
+    let reading = layout::read(lent);
+    if !reading.is_record {
+        return no_record(value);
+    }
+    let w = reading.word;
+    let stepped = step::step(w, key);
+    let answer = stepped.answer;
+    match answer {
+        StepAnswer::Did(_outcome) => {
+            let typed = stepped.word;
+            layout::write(typed, lent);
+            let letters = typed.letters;
+            let count = typed.count as usize;
+            answered(show::in_room(&letters[0..count], typed.tone, out), value)
+        }
+        StepAnswer::Refused(refusal) => refused(refusal, value),
     }
 }
 

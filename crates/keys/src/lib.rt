@@ -41,12 +41,6 @@ pub fn is_key(mode: u8, key: u8) -> bool
     is_capital(key) | ((mode == Word::VNI) & is_digit(key))
 }
 
-fn lower(key: u8) -> u8
-    ensures { λ r. ⌜ r ≡ lowerOf key ⌝ }
-{
-    if is_capital(key) { key + 32 } else { key }
-}
-
 // A key appended is a plain letter in its own case.
 pub fn letter_of_key(key: u8) -> u16
     ensures { λ r. ⌜ r ≡ number (letterOfKey key) ⌝ }
@@ -59,26 +53,26 @@ pub fn letter_of_key(key: u8) -> u16
 }
 
 fn telex_role(key: u8) -> Role
-    ensures { λ r. ⌜ r ≡ roleIn telexRoles key ⌝ }
+    ensures { λ r. ⌜ r ≡ roleIn telexRoles (lowerOf key) ⌝ }
 {
     match key {
-        b's' => Role::ToneRole(ToneKey::SetTone(ACUTE)),
-        b'f' => Role::ToneRole(ToneKey::SetTone(GRAVE)),
-        b'r' => Role::ToneRole(ToneKey::SetTone(HOOK)),
-        b'x' => Role::ToneRole(ToneKey::SetTone(TILDE)),
-        b'j' => Role::ToneRole(ToneKey::SetTone(DOT)),
-        b'z' => Role::ToneRole(ToneKey::ClearTone),
-        b'a' => Role::ShapeRole(ShapeKey::CircumflexOn(b'a')),
-        b'e' => Role::ShapeRole(ShapeKey::CircumflexOn(b'e')),
-        b'o' => Role::ShapeRole(ShapeKey::CircumflexOn(b'o')),
-        b'w' => Role::ShapeRole(ShapeKey::HornBreve),
-        b'd' => Role::StrokeRole,
+        b's' | b'S' => Role::ToneRole(ToneKey::SetTone(ACUTE)),
+        b'f' | b'F' => Role::ToneRole(ToneKey::SetTone(GRAVE)),
+        b'r' | b'R' => Role::ToneRole(ToneKey::SetTone(HOOK)),
+        b'x' | b'X' => Role::ToneRole(ToneKey::SetTone(TILDE)),
+        b'j' | b'J' => Role::ToneRole(ToneKey::SetTone(DOT)),
+        b'z' | b'Z' => Role::ToneRole(ToneKey::ClearTone),
+        b'a' | b'A' => Role::ShapeRole(ShapeKey::CircumflexOn(b'a')),
+        b'e' | b'E' => Role::ShapeRole(ShapeKey::CircumflexOn(b'e')),
+        b'o' | b'O' => Role::ShapeRole(ShapeKey::CircumflexOn(b'o')),
+        b'w' | b'W' => Role::ShapeRole(ShapeKey::HornBreve),
+        b'd' | b'D' => Role::StrokeRole,
         _ => Role::NoRole,
     }
 }
 
 fn vni_role(key: u8) -> Role
-    ensures { λ r. ⌜ r ≡ roleIn vniRoles key ⌝ }
+    ensures { λ r. ⌜ r ≡ roleIn vniRoles (lowerOf key) ⌝ }
 {
     match key {
         b'1' => Role::ToneRole(ToneKey::SetTone(ACUTE)),
@@ -100,8 +94,8 @@ pub fn role(mode: u8, key: u8) -> Role
     ensures { λ r. ⌜ r ≡ roleOf mode key ⌝ }
 {
     match mode {
-        Word::TELEX => telex_role(lower(key)),
-        Word::VNI => vni_role(lower(key)),
+        Word::TELEX => telex_role(key),
+        Word::VNI => vni_role(key),
         _ => Role::NoRole,
     }
 }

@@ -4,15 +4,16 @@ use mathlib.Core.Bool.{Bool, true, false, _&&_}
 use mathlib.Core.List.{List, [], _∷_, _++_}
 use Prim.Native.Nat.{ℕ, zero, suc, _+_, _*_, _/_, _%_, _≤_}
 use native.Mathlib.Omega.{arith}
-use borrow.Author.Tests.{eq-eqb}
+use borrow.Author.Tests.{eq-eqb, eqb-true}
 use lib.Dec.{T, eqb, eqb→eq, ltb, ltb→lt}
 use lib.Ieee.Fits.{and-l, and-r}
-use lib.ListN.{length, take, drop, length-append, length-drop, take-append-drop}
+use lib.ListN.{length, take, drop, length-append, length-take, length-drop, take-append-drop}
 use lib.Seq.{take-at, drop-at, take-all, drop-drop, set-getD}
 use Rattle.rules.specs.Refusals.{all}
 use Rattle.rules.specs.declared.Word.{Word}
 use Rattle.rules.proofs.StaysInRange.{Whole}
 use Rattle.layout.specs.Places.{pairs, numbers, markByte, asBytes, byte, isLong, isMark, wordIn, recordIf, asRecord}
+use Rattle.layout.proofs.Pairs.{length-numbers}
 use Rattle.layout.proofs.Answers.{withParts, no-mark, eight}
 
 numbers-pairs : (ns : List ℕ) → numbers (pairs ns) ≡ ns
@@ -92,3 +93,15 @@ read-written bs r t = go (isLong bs) (isMark (byte 3 bs)) refl refl r
     go true true p q e = written-back bs (eqb→eq (length bs) 104 (subst T (sym p) tt)) q t
     go true false p q e = let z : _≡_ {A = ℕ} 0 1 = cc in absurd (omega arith)
     go false m p q e = let z : _≡_ {A = ℕ} 0 1 = cc in absurd (omega arith)
+
+-- a record that is read has room for 32 letters and 32 keys
+pub read-whole : (bs : List ℕ) → Whole (asRecord bs .word)
+unfolding asRecord
+read-whole bs = go (isLong bs) (isMark (byte 3 bs)) refl
+  where
+    go : (b m : Bool) → isLong bs ≡ b → Whole (recordIf (b && m) bs .word)
+    go true true e =
+        let long = eqb-true (length bs) 104 e in
+        record { letters = length-numbers 32 (take 64 (drop 40 bs)) (simp (length-take, length-drop) (omega (arith, long))); keys = simp (length-take, length-drop) (omega (arith, long)) }
+    go true false e = record { letters = refl; keys = refl }
+    go false m e = record { letters = refl; keys = refl }

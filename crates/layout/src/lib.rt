@@ -57,9 +57,9 @@ fn high(n: u16) -> u8
 }
 
 // The bytes of the letters' numbers.
-fn put_letters(letters: [u16; 32], out: &mut [u8])
-    requires { ⌜ length (now out) ≡ 64 ⌝ }
-    ensures { λ _. ⌜ now (out .exit) ≡ pairs letters ⌝ }
+fn put_letters(letters: &[u16], out: &mut [u8])
+    requires { ⌜ (length (now letters) ≡ 32) × (length (now out) ≡ 64) ⌝ }
+    ensures { λ _. ⌜ now (out .exit) ≡ pairs (now (letters .entry)) ⌝ }
 {
     let mut i = 0;
     while i < 32 {
@@ -118,6 +118,6 @@ pub fn write(w: Word, buffer: &mut [u8]) -> bool
     let keys = w.keys;
     bytes::copy(&keys, &mut buffer[8..40]);
     let letters = w.letters;
-    put_letters(letters, &mut buffer[40..LENGTH]);
+    put_letters(&letters, &mut buffer[40..LENGTH]);
     true
 }

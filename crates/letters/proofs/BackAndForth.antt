@@ -1,10 +1,10 @@
 -- The alphabet written and read: 186 letters, each read back from what is written of it, and no other bytes read as a letter.
 use mathlib.Core.Path.{_≡_, refl, sym, ap, subst, _∙_}
 use mathlib.Core.Bool.{Bool, true, false, _&&_}
-use mathlib.Core.List.{List, [], _∷_, _++_}
-use Prim.Native.Nat.{ℕ, _+_, _/_, _%_}
+use mathlib.Core.List.{List, [], _++_}
+use Prim.Native.Nat.{ℕ}
 use native.Mathlib.Omega.{arith}
-use lib.Dec.{T, eqb, ltb}
+use lib.Dec.{T, eqb}
 use lib.ListN.{length, drop}
 use lib.Seq.{drop-append-seam}
 use lib.Ieee.Fits.{and-l, and-r}
@@ -12,11 +12,10 @@ use Rattle.rules.specs.Letters.{vni}
 use Rattle.rules.specs.TheWord.{letter, number}
 use Rattle.rules.specs.CodePoints.{Sign, sign, alphabet, point, utf8}
 use Rattle.rules.specs.Speller.{Front, letterAt}
-use Rattle.letters.specs.declared.LetterBytes.the-variants.{NoLetter}
 use Rattle.letters.specs.declared.LetterRead.{LetterRead}
 use Rattle.letters.specs.declared.LetterRead.the-variants.{Letter}
 use Rattle.letters.specs.Alphabet.{everySign, sameSign, inAlphabet, countSigns}
-use Rattle.letters.specs.Writing.{isLetter, toneStands, bytesOf, listOf, written}
+use Rattle.letters.specs.Writing.{isLetter, toneStands, written}
 use Rattle.letters.specs.Reading.{readOf, readAt}
 use Rattle.rules.proofs.Tests.{is-true}
 use Rattle.letters.proofs.Fronts.{sign-eq, of-alphabet, decodes-back}
@@ -38,22 +37,6 @@ three-byte-letters = refl
 pub all-letters : length alphabet ≡ 186
 all-letters = refl
 
--- a code point has one to three bytes, and nothing of them is lost
-abbrev bytesIf : ℕ → Bool → Bool → List ℕ
-bytesIf c p q =
-    elim p [
-      | true ↦ c ∷ []
-      | false ↦ elim q [ true ↦ (0xC0 + c / 64) ∷ (0x80 + c % 64) ∷ [] | false ↦ (0xE0 + c / 4096) ∷ (0x80 + c / 64 % 64) ∷ (0x80 + c % 64) ∷ [] ]
-    ]
-
-pub list-of-bytes : (c : ℕ) → listOf (bytesOf (utf8 c)) ≡ utf8 c
-list-of-bytes c = go (ltb c 0x80) (ltb c 0x800)
-  where
-    go : (p q : Bool) → listOf (bytesOf (bytesIf c p q)) ≡ bytesIf c p q
-    go true q = refl
-    go false true = refl
-    go false false = refl
-
 -- each letter of the alphabet is written, as its bytes
 abbrev writable : Sign → Bool
 writable s =
@@ -62,25 +45,24 @@ writable s =
 all-writable : T (everySign writable alphabet)
 all-writable = tt
 
-pub is-written : (s : Sign) → T (inAlphabet s) → listOf (written (number (s .letter)) (s .tone)) ≡ utf8 (point s)
+pub is-written : (s : Sign) → T (inAlphabet s) → written (number (s .letter)) (s .tone) ≡ utf8 (point s)
 unfolding written
 is-written s k =
     let w = of-alphabet writable all-writable s k in
     let n : ℕ = number (s .letter) in
-    ap (λ (b : Bool). listOf (elim b [ true ↦ bytesOf (utf8 (point (sign (letter n) (s .tone)))) | false ↦ NoLetter ]))
+    ap (λ (b : Bool). elim b [ true ↦ utf8 (point (sign (letter n) (s .tone))) | false ↦ [] ])
     (is-true (isLetter vni n && toneStands n (s .tone)) (and-r (sameSign (sign (letter n) (s .tone)) s) (isLetter vni n && toneStands n (s .tone)) w))
-    ∙ ap (λ (z : Sign). listOf (bytesOf (utf8 (point z))))
+    ∙ ap (λ (z : Sign). utf8 (point z))
     (sign-eq (sign (letter n) (s .tone)) s (and-l (sameSign (sign (letter n) (s .tone)) s) (isLetter vni n && toneStands n (s .tone)) w))
-    ∙ list-of-bytes (point s)
 
 -- reading back what is written gives the letter again, whatever stands before and behind
 abbrev letterRead : Sign → LetterRead
 letterRead s = Letter (number (s .letter)) (s .tone) (length (utf8 (point s)))
 
-pub reads-back : (s : Sign) (before behind : List ℕ) → T (inAlphabet s) → readAt (before ++ (listOf (written (number (s .letter)) (s .tone)) ++ behind)) (length before) ≡ letterRead s
+pub reads-back : (s : Sign) (before behind : List ℕ) → T (inAlphabet s) → readAt (before ++ (written (number (s .letter)) (s .tone) ++ behind)) (length before) ≡ letterRead s
 unfolding readAt
 reads-back s before behind k =
-    ap (λ (bs : List ℕ). readOf (letterAt bs)) (drop-append-seam before (listOf (written (number (s .letter)) (s .tone)) ++ behind))
+    ap (λ (bs : List ℕ). readOf (letterAt bs)) (drop-append-seam before (written (number (s .letter)) (s .tone) ++ behind))
     ∙ ap (λ (u : List ℕ). readOf (letterAt (u ++ behind))) (is-written s k)
     ∙ ap readOf (sym (agree (utf8 (point s) ++ behind)) ∙ decodes-back s behind k)
 

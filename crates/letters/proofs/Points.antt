@@ -5,7 +5,7 @@ use mathlib.Core.List.{List, [], _∷_}
 use Prim.Native.Nat.{ℕ, suc, _+_, _*_, _≤_, _<_, _/_, _%_}
 use native.Mathlib.Nat.{le-of-suc-le-suc, not-suc-le-zero, mod-eq-of-lt, div-div-eq-div-mul}
 use native.Mathlib.Omega.{arith}
-use lib.Dec.{T, eqb, eqb→eq, leb, leb→le, ltb}
+use lib.Dec.{T, eqb, eqb→eq, leb, leb→le, ltb, ltb→lt}
 use lib.ListN.{length, getD}
 use borrow.Author.Tests.{eqb-true}
 use lib.Ieee.Fits.{and-l, and-r}
@@ -77,12 +77,18 @@ in-no-row (v ∷ vs) x t h = go (is x (v .letter)) h (in-no-row vs x t)
     go true l e = absurd (not-suc-le-zero l)
     go false l e = e (le-of-suc-le-suc l)
 
--- A letter that carries its shape has a row exactly where its base is a vowel: computed over each base and shape.
+-- A letter that carries its shape has a row exactly where its base is a vowel, and a code point in each tone: computed over each base and shape.
 abbrev letterThere : ℕ → ℕ → Bool
 letterThere sh b = (isSmall b || isDigit b) && carries sh b
 
+abbrev pointThere : ℕ → ℕ → ℕ → Bool
+pointThere sh b t = ltb 32 (smallPoint vowels (small b sh) t)
+
+abbrev standing : ℕ → ℕ → Bool
+standing sh b = Bool·beq (vowel b) (ltb (rowOf (small b sh)) 12) && (leb 32 b && eachBelow (pointThere sh b) 6)
+
 abbrev rowed : ℕ → ℕ → Bool
-rowed sh b = not (letterThere sh b) || (Bool·beq (vowel b) (ltb (rowOf (small b sh)) 12) && leb 32 b)
+rowed sh b = not (letterThere sh b) || standing sh b
 
 abbrev rowedAll : ℕ → Bool
 rowedAll sh = eachBelow (rowed sh) 256
@@ -94,17 +100,18 @@ rowed-all = tt
 pub record Rowed (n : ℕ) : Type 0 where
   pub vowel-is : vowel (letter n .base) ≡ ltb (rowOf (letter n)) 12
   pub above : 32 ≤ n % 256
+  pub points : (t : ℕ) → t < 6 → 32 < smallPoint vowels (letter n) t
 
 pub rowed-at : (n : ℕ) → (isSmall (letter n .base) || isDigit (letter n .base)) && carries (letter n .shape) (letter n .base) ≡ true → Rowed n
 unfolding rowOf
 rowed-at n e =
-    let t : T (Bool·beq (vowel (n % 256)) (ltb (rowOf (letter n)) 12) && leb 32 (n % 256)) =
-    either (letterThere (n / 256 % 8) (n % 256)) (Bool·beq (vowel (n % 256)) (ltb (rowOf (letter n)) 12) && leb 32 (n % 256))
-    (below (rowed (n / 256 % 8)) 256 (below rowedAll 8 rowed-all (n / 256 % 8) (omega arith)) (n % 256) (omega arith))
-    e in
+    let sh : ℕ = n / 256 % 8 in
+    let b : ℕ = n % 256 in
+    let t : T (standing sh b) = either (letterThere sh b) (standing sh b) (below (rowed sh) 256 (below rowedAll 8 rowed-all sh (omega arith)) b (omega arith)) e in
     record {
-      vowel-is = same-bool (vowel (n % 256)) (ltb (rowOf (letter n)) 12) (and-l (Bool·beq (vowel (n % 256)) (ltb (rowOf (letter n)) 12)) (leb 32 (n % 256)) t);
-      above = leb→le 32 (n % 256) (and-r (Bool·beq (vowel (n % 256)) (ltb (rowOf (letter n)) 12)) (leb 32 (n % 256)) t);
+      vowel-is = same-bool (vowel b) (ltb (rowOf (letter n)) 12) (search and-l);
+      above = leb→le 32 b (search (and-l, and-r));
+      points = λ u h. ltb→lt 32 (smallPoint vowels (letter n) u) (below (pointThere sh b) 6 (search and-r) u h);
     }
 
 -- The number of the small letter is its base and 256 times its shape, so a capital has its small letter's row.

@@ -1,35 +1,20 @@
-// The alphabet in code: which shape a base carries, the bytes of a letter, and the letter that stands at a place of a text.
+// The alphabet in code: which numbers are letters, the code point of a letter, and the letter that stands at a place of a text.
 ghost use mathlib.Core.Path.{_≡_};
-ghost use mathlib.Core.Bool.{_&&_};
 ghost use Prim.Native.Nat.{_<_, _≤_};
-ghost use lib.Dec.{eqb};
-ghost use Rattle.rules.specs.Letters.{noTone, carries as carriesShape};
 ghost use Rattle.rules.specs.TheWord.{letter as letterOfNumber};
-ghost use Rattle.rules.specs.KeyRoles.{isSmall};
-ghost use Rattle.rules.specs.CodePoints.{capitalPoint, inCase, utf8 as utf8Of};
+ghost use Rattle.rules.specs.KeyRoles.{isSmall, isDigit};
+ghost use Rattle.rules.specs.CodePoints.{capitalPoint, inCase};
 ghost use Rattle.letters.specs.Decoding.{followsOn, oneByte, InTwo, pointOfTwo, twoBytes, InThree, pointOfThree, threeBytes, readAs};
 ghost use Rattle.letters.specs.Reading.{readAt};
-ghost use Rattle.letters.specs.Writing.{isLetter, bytesOf, written};
+ghost use Rattle.letters.specs.Writing.{isLetter, isShaped, pointOr};
 
 mod vowels;
 
-use rules::BREVE;
 use rules::CAPITAL;
-use rules::CIRCUMFLEX;
 use rules::DOT;
-use rules::HORN;
 use rules::NO_TONE;
-use rules::PLAIN;
 use rules::STROKE;
 use rules::Word;
-
-// The UTF-8 bytes of a letter.
-pub enum LetterBytes {
-    One(u8),
-    Two(u8, u8),
-    Three(u8, u8, u8),
-    NoLetter,
-}
 
 // A letter that starts at a place of a text: its number, the tone on it, and its length in bytes.
 pub enum LetterRead {
@@ -48,34 +33,43 @@ const D_STROKE_POINT: u16 = 0x111;
 
 const CAPITAL_D_STROKE_POINT: u16 = D_STROKE_POINT - 1;
 
-// Shapes that a letter can carry: circumflex on a e o, breve on a, horn on o u, stroke on d; every letter is plain.
-pub fn carries(shape: u8, base: u8) -> bool
-    ensures { λ r. ⌜ r ≡ carriesShape shape base ⌝ }
+// A plain small letter, its own byte: most letters are such.
+pub fn is_plain(letter: u16) -> bool
+    ensures { λ r. ⌜ r ≡ isSmall letter ⌝ }
 {
-    match shape {
-        PLAIN => true,
-        CIRCUMFLEX => (base == b'a') | ((base == b'e') | (base == b'o')),
-        BREVE => base == b'a',
-        HORN => (base == b'o') | (base == b'u'),
-        STROKE => base == b'd',
+    (b'a' as u16 <= letter) & (letter <= b'z' as u16)
+}
+
+// The letters that carry a shape, without their case: circumflex on a e o, breve on a, horn on o u, stroke on d.
+fn is_shaped(small: u16) -> bool
+    ensures { λ r. ⌜ r ≡ isShaped small ⌝ }
+{
+    match small {
+        vowels::A_BREVE | vowels::A_CIRCUMFLEX | vowels::E_CIRCUMFLEX => true,
+        vowels::O_CIRCUMFLEX | vowels::O_HORN | vowels::U_HORN | D_STROKE => true,
         _ => false,
     }
+}
+
+// A digit: no capital, and in no shape.
+fn is_plain_digit(letter: u16) -> bool
+    ensures { λ r. ⌜ r ≡ isDigit letter ⌝ }
+{
+    (b'0' as u16 <= letter) & (letter <= b'9' as u16)
 }
 
 // A number that is a letter which a word of the mode can hold.
 pub fn is_letter(mode: u8, letter: u16) -> bool
     ensures { λ r. ⌜ r ≡ isLetter mode letter ⌝ }
 {
+    if is_plain(letter) {
+        return true;
+    }
     if 2 * CAPITAL <= letter {
         return false;
     }
-    let base = (letter % 256) as u8;
-    let shape = (letter / 256 % 8) as u8;
-    if keys::is_small(base) {
-        return carries(shape, base);
-    }
-    let digit = keys::is_digit(base);
-    ((mode == Word::VNI) & digit) & (carries(shape, base) & !(digit & (letter / CAPITAL % 2 == 1)))
+    let small = letter % CAPITAL;
+    (is_plain(small) | is_shaped(small)) | ((mode == Word::VNI) & is_plain_digit(letter))
 }
 
 // The capital is 32 less below 100 hex, else 1 less.
@@ -86,67 +80,43 @@ fn capital_point(point: u16) -> u16
     if point < 0x100 { point - 32 } else { point - 1 }
 }
 
-// UTF-8 of the code point of a letter, given that of the small letter.
-fn encoded(letter: u16, small: u16) -> LetterBytes
+// The code point of a letter in its case, given that of the small letter.
+fn in_case(letter: u16, small: u16) -> u16
     requires { ⌜ 32 ≤ small ⌝ }
-    ensures { λ r. ⌜ r ≡ bytesOf (utf8Of (inCase (letterOfNumber letter .capital) small)) ⌝ }
+    ensures { λ r. ⌜ r ≡ inCase (letterOfNumber letter .capital) small ⌝ }
 {
     if letter / CAPITAL % 2 == 1 {
-        encode(capital_point(small))
+        capital_point(small)
     } else {
-        encode(small)
+        small
     }
 }
 
-// UTF-8 of a code point below 10000 hex.
-fn encode(point: u16) -> LetterBytes
-    ensures { λ r. ⌜ r ≡ bytesOf (utf8Of point) ⌝ }
+// The code point of a letter with a tone on it; 0 where there is none. A digit is its own code point.
+pub fn point(letter: u16, tone: u8) -> u16
+    ensures { λ r. ⌜ r ≡ pointOr letter tone ⌝ }
 {
-    if point < 0x80 {
-        return LetterBytes::One(point as u8);
-    }
-    if point < 0x800 {
-        return LetterBytes::Two((0xC0 + point / 64) as u8, (0x80 + point % 64) as u8);
-    }
-    LetterBytes::Three(
-        (0xE0 + point / 4096) as u8,
-        (0x80 + point / 64 % 64) as u8,
-        (0x80 + point % 64) as u8,
-    )
-}
-
-// A small letter with no mark on it: its own byte, and most letters of a text are such.
-fn is_bare(letter: u16, tone: u8) -> bool
-    ensures { λ r. ⌜ r ≡ (isSmall letter && eqb tone noTone) ⌝ }
-{
-    ((b'a' as u16 <= letter) & (letter <= b'z' as u16)) & (tone == NO_TONE)
-}
-
-// The bytes of a letter with a tone on it. A digit is its own byte.
-pub fn utf8(letter: u16, tone: u8) -> LetterBytes
-    ensures { λ r. ⌜ r ≡ written letter tone ⌝ }
-{
-    if is_bare(letter, tone) {
-        return LetterBytes::One(letter as u8);
-    }
-    if !is_letter(Word::VNI, letter) {
-        return LetterBytes::NoLetter;
+    if 2 * CAPITAL <= letter {
+        return 0;
     }
     if DOT < tone {
-        return LetterBytes::NoLetter;
+        return 0;
     }
     let small = letter % CAPITAL;
     let row = vowels::row(small);
     if row < vowels::ROWS {
-        return encoded(letter, vowels::point(row, tone as usize));
+        return in_case(letter, vowels::point(row, tone as usize));
+    }
+    if !is_letter(Word::VNI, letter) {
+        return 0;
     }
     if tone != NO_TONE {
-        return LetterBytes::NoLetter;
+        return 0;
     }
     if small == D_STROKE {
-        return encoded(letter, D_STROKE_POINT);
+        return in_case(letter, D_STROKE_POINT);
     }
-    encoded(letter, letter % 256)
+    in_case(letter, letter % 256)
 }
 
 // A byte that goes on a longer sequence of UTF-8.

@@ -25,25 +25,25 @@ const ENTRIES: usize = ROWS * TONES;
 
 const A: u16 = b'a' as u16;
 
-const A_BREVE: u16 = A + 256 * BREVE as u16;
+pub(crate) const A_BREVE: u16 = A + 256 * BREVE as u16;
 
-const A_CIRCUMFLEX: u16 = A + 256 * CIRCUMFLEX as u16;
+pub(crate) const A_CIRCUMFLEX: u16 = A + 256 * CIRCUMFLEX as u16;
 
 const E: u16 = b'e' as u16;
 
-const E_CIRCUMFLEX: u16 = E + 256 * CIRCUMFLEX as u16;
+pub(crate) const E_CIRCUMFLEX: u16 = E + 256 * CIRCUMFLEX as u16;
 
 const I: u16 = b'i' as u16;
 
 const O: u16 = b'o' as u16;
 
-const O_CIRCUMFLEX: u16 = O + 256 * CIRCUMFLEX as u16;
+pub(crate) const O_CIRCUMFLEX: u16 = O + 256 * CIRCUMFLEX as u16;
 
-const O_HORN: u16 = O + 256 * HORN as u16;
+pub(crate) const O_HORN: u16 = O + 256 * HORN as u16;
 
 const U: u16 = b'u' as u16;
 
-const U_HORN: u16 = U + 256 * HORN as u16;
+pub(crate) const U_HORN: u16 = U + 256 * HORN as u16;
 
 const Y: u16 = b'y' as u16;
 

@@ -1,20 +1,20 @@
 -- What the line of a word in range is made of, and the line of keys: their word's, or a refusal's whose numbers fit their columns.
 use mathlib.Core.Path.{_≡_, refl, sym, ap, subst, _∙_}
-use mathlib.Core.Bool.{Bool, true, false, not}
-use mathlib.Core.List.{List, [], _∷_}
+use mathlib.Core.Bool.{Bool, true, false, not, _&&_}
+use mathlib.Core.List.{List, [], _∷_, map}
 use mathlib.Core.Option.{Option, none, some}
 use Prim.Native.Nat.{ℕ, suc, _+_, _-_, _≤_, _<_}
 use native.Mathlib.Omega.{arith}
 use borrow.Author.Tests.{ltb-false}
-use lib.Dec.{T, ltb, lit≤}
+use lib.Dec.{T, eqb, ltb, lit≤}
 use lib.ListN.{length, take, length-take, length-map}
 use Rattle.rules.specs.Letters.{Letters}
 use Rattle.rules.specs.TakingApart.{verdict}
 use Rattle.rules.specs.TonePlace.{tonePlace}
-use Rattle.rules.specs.TheWord.{mostKeys, wordOf, atFront}
+use Rattle.rules.specs.TheWord.{mostKeys, mostBytes, letter, wordOf, atFront}
 use Rattle.rules.specs.KeyRoles.{isKey}
 use Rattle.rules.specs.CodePoints.{shown}
-use Rattle.rules.specs.Decision.{decision, handedBack}
+use Rattle.rules.specs.Decision.{keeps, decision, handedBack}
 use Rattle.rules.specs.Refusals.{all, isMode, allowedBefore, outOfRange, refusal}
 use Rattle.rules.specs.WhatComesBack.{typeAll}
 use Rattle.rules.specs.Drill.{decimal, orHyphen, placeColumn, decisionColumn, columns, wordLine, refusedLine, lineOr, keysLine}
@@ -29,6 +29,10 @@ use Rattle.rules.proofs.StaysInRange.{read-front}
 use Rattle.rules.proofs.Answering.{refused-as, not-refused, typed-word}
 use Rattle.rules.proofs.TonePlaces.{place-in-word}
 use Rattle.rules.proofs.Range.{in-range, few-letters}
+use Rattle.word.specs.Deciding.{decidedBy}
+use Rattle.show.specs.Filling.{textOf, roomText}
+use Rattle.show.proofs.Texts.{text-of}
+use Rattle.show.proofs.Answers.{in-room}
 use Rattle.lines.specs.Appending.{SmallPlace}
 
 -- the place of a tone is below the number of letters
@@ -41,9 +45,43 @@ module _ (w : Word) (e : outOfRange w ≡ false) where
   abbrev its-text : List ℕ
   its-text = shown (wordOf w .state)
 
+  -- its letters, as they are lent
+  abbrev lent : List ℕ
+  lent = take (w .count - 0) (w .letters)
+
+  its-count : w .count - 0 ≡ w .count
+  its-count = omega arith
+
+  its-letters : map letter lent ≡ wordOf w .state .letters
+  its-letters = ap (λ (n : ℕ). map letter (take n (w .letters))) its-count
+
+  room-text : (out : List ℕ) → mostBytes ≤ length out → roomText lent (w .tone) out ≡ its-text
+  room-text out h =
+      let few : length lent ≤ mostKeys = simp length-take (omega (arith, few-letters w e)) in
+      sym (in-room lent (w .tone) out few h) ∙ ap (λ (n : ℕ). textOf (take n (w .letters)) (w .tone)) its-count ∙ text-of w e
+
+  pub its-verdict : verdict (map letter lent) (w .tone) ≡ verdict (wordOf w .state .letters) (w .tone)
+  its-verdict = ap (λ (l : Letters). verdict l (w .tone)) its-letters
+
+  pub its-place : tonePlace (map letter lent) (w .tone) ≡ tonePlace (wordOf w .state .letters) (w .tone)
+  its-place = ap (λ (l : Letters). tonePlace l (w .tone)) its-letters
+
+  abbrev decide : Letters → ℕ → Decision
+  decide l v = decidedBy (eqb (w .acted) 0 && eqb (w .undone) 0) (w .closed) l v
+
+  pub its-decision : (v : ℕ) → v ≡ verdict (map letter lent) (w .tone) → decide (map letter lent) v ≡ decision (wordOf w)
+  unfolding keeps
+  its-decision v f = ap (decide (map letter lent)) f ∙ ap (λ (l : Letters). decide l (verdict l (w .tone))) its-letters
+
   -- what the line of the word is made of
-  pub front-of : (n : ℕ) (buffer old : List ℕ) → n ≡ length its-text → buffer ≡ atFront its-text old → take (n - 0) buffer ≡ its-text
-  front-of n buffer old m b = let l : length its-text ≡ n - 0 = omega arith in ap (take (n - 0)) b ∙ read-front its-text old (n - 0) l
+  module _ (n : ℕ) (old : List ℕ) (h : mostBytes ≤ length old) (m : n ≡ length (roomText lent (w .tone) old)) where
+    pub text-long : n ≡ length its-text
+    text-long = m ∙ ap length (room-text old h)
+
+    pub text-made : (buffer : List ℕ) → buffer ≡ atFront (roomText lent (w .tone) old) old → take (n - 0) buffer ≡ its-text
+    text-made buffer b =
+        let l : length its-text ≡ n - 0 = omega (arith, text-long) in
+        ap (take (n - 0)) (b ∙ ap (λ (t : List ℕ). atFront t old) (room-text old h)) ∙ read-front its-text old (n - 0) l
 
   pub place-fits : (p : Place) → p ≡ tonePlace (wordOf w .state .letters) (w .tone) → SmallPlace p
   place-fits p f = place-small (wordOf w .state .letters) (w .tone) (simp (length-map, length-take) (omega (arith, few-letters w e))) p (sym f)

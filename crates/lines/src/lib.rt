@@ -4,11 +4,8 @@ ghost use mathlib.Core.Bool.{false};
 ghost use mathlib.Core.List.{[], _∷_, _++_};
 ghost use Prim.Native.Nat.{_+_, _≤_, _<_};
 ghost use lib.ListN.{length};
-ghost use Rattle.rules.specs.TheWord.{mostKeys, mostBytes, atFront, wordOf};
-ghost use Rattle.rules.specs.CodePoints.{shown as shownText};
-ghost use Rattle.rules.specs.TakingApart.{verdict as verdictOf};
-ghost use Rattle.rules.specs.TonePlace.{tonePlace};
-ghost use Rattle.rules.specs.Decision.{decision as decisionOf, handedBack};
+ghost use Rattle.rules.specs.TheWord.{mostKeys, mostBytes, wordOf};
+ghost use Rattle.rules.specs.Decision.{handedBack};
 ghost use Rattle.rules.specs.Refusals.{outOfRange};
 ghost use Rattle.rules.specs.Drill.{decimal, orHyphen, placeColumn, decisionColumn, columns, wordLine, refusedLine, keysLine};
 ghost use Rattle.rules.specs.SpellProgram.{spelledLine};
@@ -16,12 +13,9 @@ ghost use Rattle.lines.specs.Appending.{Appends, mostInLine, SmallPlace}
 ghost use Rattle.lines.specs.Programs.{answerOf, lineAnswer};
 ghost use Rattle.lines.specs.Starting.{startOf};
 use rules::Decision;
-use rules::DecisionAnswer;
 use rules::Place;
-use rules::PlaceAnswer;
 use rules::Refusal;
 use rules::TypeAnswer;
-use rules::VerdictAnswer;
 use rules::Word;
 use rules::WriteAnswer;
 
@@ -143,64 +137,30 @@ fn six_columns(
     byte_column(text, e, letter(decision), NEWLINE)
 }
 
-// Of a word in range: its text at the front of the buffer, its verdict, the place of its tone and the decision on it. The entries refuse no such word.
-fn shown(w: Word, buffer: &mut [u8]) -> usize
-    requires { ⌜ (outOfRange w ≡ false) × (mostBytes ≤ length (now buffer)) ⌝ }
-    ensures { λ r. ⌜ (r ≡ length (shownText (wordOf w .state))) × (now (buffer .exit) ≡ atFront (shownText (wordOf w .state)) (now (buffer .entry))) ⌝ }
-{
-    let WriteAnswer::Wrote(n) = show::show(w, buffer) else {
-        return 0;
-    };
-    n
-}
-
-fn verdict(w: Word) -> u8
-    requires { ⌜ outOfRange w ≡ false ⌝ }
-    ensures { λ r. ⌜ r ≡ verdictOf (wordOf w .state .letters) (w .tone) ⌝ }
-{
-    let VerdictAnswer::Judged(verdict) = word::verdict(w) else {
-        return 0;
-    };
-    verdict
-}
-
-fn place(w: Word) -> Place
-    requires { ⌜ outOfRange w ≡ false ⌝ }
-    ensures { λ r. ⌜ r ≡ tonePlace (wordOf w .state .letters) (w .tone) ⌝ }
-{
-    let PlaceAnswer::Found(place) = word::place(w) else {
-        return Place::Nowhere;
-    };
-    place
-}
-
-fn decision(w: Word) -> Decision
-    requires { ⌜ outOfRange w ≡ false ⌝ }
-    ensures { λ r. ⌜ r ≡ decisionOf (wordOf w) ⌝ }
-{
-    let DecisionAnswer::Decided(decision) = word::decision(w) else {
-        return Decision::Keep;
-    };
-    decision
-}
-
-// The line of a word.
+// The line of a word in range: its letters are taken out of the record once, and not asked about again.
 fn word_line(text: &mut [u8], w: Word) -> usize
     requires { ⌜ (mostInLine ≤ length (now text)) × (outOfRange w ≡ false) ⌝ }
     ensures { λ r. ⌜ Appends (now (text .entry)) (now (text .exit)) 0 r (wordLine (wordOf w)) ⌝ }
 {
+    let all = w.letters;
+    let count = w.count as usize;
+    let letters = &all[0..count];
     let mut buffer = [0; Word::TEXT];
-    let n = shown(w, &mut buffer);
+    let n = show::in_room(letters, w.tone, &mut buffer);
+    let verdict = syllable::verdict(letters, w.tone);
+    let place = parts::tone_place(letters, w.tone);
+    let untouched = (w.acted == 0) & (w.undone == 0);
+    let decision = word::decided(letters, untouched, w.closed, verdict);
     let keys = w.keys;
     let typed = w.typed as usize;
     six_columns(
         text,
         &buffer[0..n],
         &keys[0..typed],
-        verdict(w),
+        verdict,
         w.tone,
-        place(w),
-        decision(w),
+        place,
+        decision,
     )
 }
 

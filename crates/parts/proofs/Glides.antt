@@ -1,6 +1,6 @@
 -- qu and gi, on numbers.
 use mathlib.Core.Path.{_≡_, refl, sym, ap₂, _∙_}
-use mathlib.Core.Bool.{Bool, false, not, _&&_, _||_}
+use mathlib.Core.Bool.{Bool, false, not, _&&_, _||_, or-false}
 use mathlib.Core.List.{List, [], _∷_, map}
 use Prim.Native.Nat.{ℕ, suc, _<_, _%_, _/_}
 use native.Mathlib.Omega.{arith}
@@ -35,21 +35,34 @@ is-plain n b h =
     (λ d. eqb-case (λ t. false ≡ (t && eqb (n / 256 % 8) 0)) (n % 256) b (λ e. sym (ne-eqb (n / 256 % 8) 0 (λ f. d (omega arith)))) (λ _. refl))
 
 -- what stands before the run, and the first of the run
-abbrev pub joined : (x y : ℕ) → Bool → Bool
-joined x y another = (eqb x (code "q") && eqb y (code "u")) || (eqb x (code "g") && (eqb (y % 256) (code "i") && another))
+abbrev joined : (x y : ℕ) → Bool → Bool
+joined x y another = (eqb x (code "q") && eqb (y % 2048) (code "u")) || (eqb x (code "g") && (eqb (y % 256) (code "i") && another))
 
-pub joined-is : (ns ms : List ℕ) → length ns ≡ 1 → (length ms ≡ 0 → ⊥) →
-    joined (getD ns 0 0 % 2048) (getD ms 0 0 % 2048) (not (eqb (length ms) 1)) ≡ joins (map letter ns) (map letter ms)
+joined-is : (ns ms : List ℕ) → length ns ≡ 1 → (length ms ≡ 0 → ⊥) → joined (getD ns 0 0 % 2048) (getD ms 0 0) (not (eqb (length ms) 1)) ≡ joins (map letter ns) (map letter ms)
 unfolding joins
 joined-is [] ms e f = absurd (omega arith)
 joined-is (n ∷ k ∷ ks) ms e f = absurd (omega arith)
 joined-is (n ∷ []) [] e f = absurd (f refl)
 joined-is (n ∷ []) (m ∷ ms) e f =
-    λ j. ((is-plain n (code "q") (omega arith) ∙ only _) j && is-plain m (code "u") (omega arith) j) || ((is-plain n (code "g") (omega arith) ∙ only _) j && (eqb (base j) (code "i") && not (another ms j)))
+    λ j. ((is-plain n (code "q") (omega arith) ∙ only _) j && is-plain m (code "u") (omega arith) j) || ((is-plain n (code "g") (omega arith) ∙ only _) j && (eqb (m % 256) (code "i") && not (another ms j)))
   where
-    base : m % 2048 % 256 ≡ m % 256
-    base = omega arith
-
     another : (ks : List ℕ) → eqb (suc (length ks)) 1 ≡ isNil (map letter ks)
     another [] = refl
     another (k ∷ ks) = ne-eqb (suc (suc (length ks))) 1 (omega arith)
+
+module _ (ns ms : List ℕ) (one : length ns ≡ 1) (some : length ms ≡ 0 → ⊥) where
+  abbrev x : ℕ
+  x = getD ns 0 0 % 2048
+
+  abbrev y : ℕ
+  y = getD ms 0 0
+
+  abbrev gi : Bool
+  gi = eqb (y % 256) (code "i") && not (eqb (length ms) 1)
+
+  pub after-q : x ≡ code "q" → eqb (y % 2048) (code "u") ≡ joins (map letter ns) (map letter ms)
+  after-q e =
+      sym (or-false _) ∙ (λ j. (sym (eq-eqb x (code "q") e) j && eqb (y % 2048) (code "u")) || (sym (ne-eqb x (code "g") (omega arith)) j && gi)) ∙ joined-is ns ms one some
+
+  pub not-q : (x ≡ code "q" → ⊥) → (eqb x (code "g") && gi) ≡ joins (map letter ns) (map letter ms)
+  not-q n = (λ j. (sym (ne-eqb x (code "q") n) j && eqb (y % 2048) (code "u")) || (eqb x (code "g") && gi)) ∙ joined-is ns ms one some

@@ -18,7 +18,7 @@ use Rattle.parts.specs.Ends.{partsOf}
 use Rattle.parts.specs.declared.Parts.{Parts}
 use Rattle.parts.proofs.Bools.{pick}
 use Rattle.rules.proofs.Wholes.{whole}
-use Rattle.parts.proofs.Splits.{nil-length}
+use Rattle.parts.proofs.Splits.{nil-length, cut}
 
 -- the last shaped letter of those from a place on
 abbrev pub lastFrom : ℕ → List ℕ → Option ℕ
@@ -73,9 +73,6 @@ module _ (s : List ℕ) (tone : ℕ) (r : Parts) (e : r ≡ partsOf (map letter 
   n-is : r .nucleus ≡ length (initial w) + length (nucleus w)
   n-is = ap (λ (x : Parts). x .nucleus) e
 
-  none-is : eqb (r .initial) (r .nucleus) ≡ isNil (nucleus w)
-  none-is = nil-length (nucleus w) (r .initial) (r .nucleus) (omega (arith, i-is, n-is))
-
   -- nothing follows the nucleus
   ends-is : eqb (r .nucleus) (length s) ≡ (isNil (final w) && isNil (leftovers w))
   ends-is =
@@ -87,7 +84,7 @@ module _ (s : List ℕ) (tone : ℕ) (r : Parts) (e : r ≡ partsOf (map letter 
 
   module _ (some : (tone ≡ 0) → ⊥) where
     unless-is : (b : Bool) → eqb (r .initial) (r .nucleus) ≡ b → b ≡ (eqb tone 0 || isNil (nucleus w))
-    unless-is b t = sym t ∙ none-is ∙ ap (λ (c : Bool). c || isNil (nucleus w)) (sym (ne-eqb tone 0 some))
+    unless-is b t = sym t ∙ cut s r e .none ∙ ap (λ (c : Bool). c || isNil (nucleus w)) (sym (ne-eqb tone 0 some))
 
     pub no-nucleus : r .initial ≡ r .nucleus → Nowhere ≡ tonePlace w tone
     unfolding tonePlace

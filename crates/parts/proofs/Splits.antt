@@ -1,16 +1,15 @@
 -- The parts of a word as parts of the list of its numbers.
-use mathlib.Core.Path.{_≡_, refl, sym, ap, ap₂, subst, _∙_}
-use mathlib.Core.Bool.{Bool, true, false, _&&_}
+use mathlib.Core.Path.{_≡_, refl, sym, ap, ap₂, _∙_}
+use mathlib.Core.Bool.{Bool, true, false}
 use mathlib.Core.List.{List, [], _∷_, _++_, map, append-assoc}
 use Prim.Native.Nat.{ℕ, zero, suc, _+_, _-_, _≤_}
 use native.Mathlib.Omega.{arith}
-use lib.Dec.{T, eqb, ltb}
+use lib.Dec.{eqb}
 use lib.ListN.{length, take, drop, length-append, length-map}
 use lib.Seq.{take-append-seam, drop-append-seam}
-use lib.Ieee.Fits.{and-l, and-i}
 use borrow.Author.Tests.{eq-eqb, ne-eqb}
 use Rattle.rules.specs.Letters.{Letters, isNil}
-use Rattle.rules.specs.TakingApart.{isKind, front, frontIf, past, pastIf, before, run, joins, initialOf, nucleusOf, initial, nucleus, final, leftovers}
+use Rattle.rules.specs.TakingApart.{front, past, before, run, joins, initialOf, nucleusOf, initial, nucleus, final, leftovers}
 use Rattle.rules.specs.TheWord.{letter}
 use Rattle.rules.proofs.Wholes.{split, halves, whole}
 use Rattle.parts.specs.Ends.{partsOf}
@@ -44,6 +43,7 @@ pub record Cut (s : List ℕ) (i n f : ℕ) : Type 0 where
   pub ini : map letter (take (i - 0) (drop 0 s)) ≡ initial (map letter s)
   pub nuc : map letter (take (n - i) (drop i s)) ≡ nucleus (map letter s)
   pub fin : map letter (take (f - n) (drop n s)) ≡ final (map letter s)
+  pub none : eqb i n ≡ isNil (nucleus (map letter s))
   pub left : eqb f (length s) ≡ isNil (leftovers (map letter s))
 
 pub nil-length : (w : Letters) (f n : ℕ) → n ≡ f + length w → eqb f n ≡ isNil w
@@ -64,6 +64,7 @@ cut s r e =
       ini = part s 0 (r .initial) [] (initial w) _ (whole w) refl (omega arith);
       nuc = part s (r .initial) (r .nucleus) (initial w) (nucleus w) _ (whole w) ei en;
       fin = part s (r .nucleus) (r .end) (initial w ++ nucleus w) (final w) (leftovers w) (append-assoc (initial w) (nucleus w) (final w ++ leftovers w) ∙ whole w) (en ∙ sym (length-append (initial w) (nucleus w))) (ef ∙ ap (λ (n : ℕ). n + length (final w)) (sym (length-append (initial w) (nucleus w))));
+      none = nil-length (nucleus w) (r .initial) (r .nucleus) (omega arith);
       left = nil-length (leftovers w) (r .end) (length s) (omega arith);
     }
 

@@ -68,9 +68,10 @@ fn joins(before: &[u16], run: &[u16]) -> bool
     }
     // Without its case a plain letter is its base alone.
     let x = before[0] % CAPITAL;
-    let y = run[0] % CAPITAL;
-    ((x == b'q' as u16) & (y == b'u' as u16))
-        | ((x == b'g' as u16) & ((y % 256 == b'i' as u16) & (run.len() != 1)))
+    if x == b'q' as u16 {
+        return run[0] % CAPITAL == b'u' as u16;
+    }
+    (x == b'g' as u16) & ((run[0] % 256 == b'i' as u16) & (run.len() != 1))
 }
 
 // Where the initial, the nucleus and the final end (`final` is a reserved word). Each begins where the one before it ends,
@@ -88,15 +89,13 @@ pub fn apart(s: &[u16]) -> Parts
     let before = run_end(s, 0, false);
     let run = run_end(s, before, true);
     let end = run_end(s, run, false);
-    if joins(&s[0..before], &s[before..run]) {
-        return Parts {
-            initial: before + 1,
-            nucleus: run,
-            end: end,
-        };
-    }
+    let initial = if joins(&s[0..before], &s[before..run]) {
+        before + 1
+    } else {
+        before
+    };
     Parts {
-        initial: before,
+        initial: initial,
         nucleus: run,
         end: end,
     }

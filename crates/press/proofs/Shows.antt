@@ -44,7 +44,7 @@ module _ (w : Word) (k : ℕ) (out : List ℕ) (s : Step) (e : s ≡ step w k) w
     was-in-range : (b : Bool) → outOfRange w ≡ b → T (not b)
     was-in-range false r = tt
     was-in-range true r =
-        let f : Stepped o ≡ StepRefused (record { number = 8; value = 0 }) = sym d ∙ ap (λ (x : Step). x .answer) (e ∙ out-of-range w k r) in
+        let f : Stepped o ≡ StepRefused (record { number = 8; value = 0 }) = sym d ∙ ap (λ (x : Step). x .answer) (e ∙ sym (out-of-range w k r)) in
         let z : _≡_ {A = ℕ} 0 1 = cc in
         absurd (omega arith)
 

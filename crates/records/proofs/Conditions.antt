@@ -2,10 +2,10 @@
 use mathlib.Core.Path.{_≡_, refl, ap, sym, _∙_}
 use mathlib.Core.Bool.{Bool, true, false, not, _&&_, _||_}
 use mathlib.Core.List.{List, [], _∷_}
-use Prim.Native.Nat.{ℕ, _+_, _<_, _≤_}
+use Prim.Native.Nat.{ℕ, _+_, _-_, _<_, _≤_}
 use native.Mathlib.Numerals.{add-one}
 use native.Mathlib.Omega.{arith}
-use borrow.Author.Tests.{ltb-false}
+use borrow.Author.Tests.{le-ltb, ltb-false, eqb-true}
 use lib.Dec.{eqb, ltb}
 use Rattle.rules.specs.Letters.{dot}
 use lib.ListN.{length, take, drop, getD, drop-of-length-le}
@@ -15,7 +15,8 @@ use Rattle.rules.specs.KeyRoles.{isKey}
 use Rattle.rules.specs.Refusals.{all, any, allLetters, isMode, countsOver, letterAllowed, shapeCarried, noCapitalDigit, outOfRange}
 use Rattle.rules.specs.declared.Word.{Word}
 use Rattle.letters.specs.Writing.{isLetter}
-use Rattle.records.specs.Numbers.{numbersWrong}
+use Rattle.records.specs.declared.Numbers.{Numbers}
+use Rattle.records.specs.Numbers.{numbersOf, over, numbersWrong}
 
 -- one turn
 module _ (f : ℕ → Bool) (s : List ℕ) (i : ℕ) where
@@ -68,22 +69,64 @@ not-three true true c = refl
 not-three true false c = refl
 not-three false b c = refl
 
-pub range-is : (w : Word) → outOfRange w ≡ (numbersWrong w || (not (all (isKey (w .mode)) (take (w .typed) (w .keys))) || not (all (isLetter (w .mode)) (take (w .count) (w .letters)))))
+pub range-is : (w : Word) → outOfRange w ≡ (numbersWrong (w .mode) (numbersOf w) || (not (all (isKey (w .mode)) (take (w .typed) (w .keys))) || not (all (isLetter (w .mode)) (take (w .count) (w .letters)))))
 unfolding outOfRange
 range-is w =
     let ns = take (w .count) (w .letters) in
     numbers-first (any (countsOver w)) (ltb (w .typed) (w .count)) (not (eqb (w .acted + w .undone + w .appended) (w .typed))) (not (all (isKey (w .mode)) (take (w .typed) (w .keys))))
     (not (all (letterAllowed (w .mode)) ns)) (not (allLetters shapeCarried ns)) (not (allLetters noCapitalDigit ns)) (ltb dot (w .tone) || not (isMode (w .mode))) ∙
-    ap (λ (b : Bool). numbersWrong w || (not (all (isKey (w .mode)) (take (w .typed) (w .keys))) || b))
+    ap (λ (b : Bool). numbersWrong (w .mode) (numbersOf w) || (not (all (isKey (w .mode)) (take (w .typed) (w .keys))) || b))
     (not-three (all (letterAllowed (w .mode)) ns) (allLetters shapeCarried ns) (allLetters noCapitalDigit ns) ∙ ap not (sym (all-three (w .mode) ns)))
 
--- counts in order are at most 32
 or-false : (p q : Bool) → p || q ≡ false → (p ≡ false) × (q ≡ false)
 or-false true q e = let z : _≡_ {A = ℕ} 0 1 = cc in absurd (omega arith)
 or-false false q e = (refl, e)
 
-pub typed-small : (w : Word) → numbersWrong w ≡ false → w .typed ≤ mostKeys
-typed-small w e = ltb-false mostKeys (w .typed) (or-false (ltb mostKeys (w .typed)) _ (or-false (any (countsOver w)) _ e .0) .0)
+-- no more than 32 keys, no more letters than keys, and a sum that is the keys: then no count is over 32
+or-true : (p : Bool) → true ≡ p || true
+or-true true = refl
+or-true false = refl
 
-pub count-small : (w : Word) → numbersWrong w ≡ false → w .count ≤ mostKeys
-count-small w e = ltb-false mostKeys (w .count) (or-false (ltb mostKeys (w .count)) _ (or-false (ltb mostKeys (w .typed)) _ (or-false (any (countsOver w)) _ e .0) .1) .0)
+module _ (t c a u p : ℕ) (x : Bool) where
+  abbrev others : Bool
+  others = ltb mostKeys c || (ltb mostKeys a || (ltb mostKeys u || ltb mostKeys p))
+
+  by-sum : (k f s : Bool) → ltb mostKeys t ≡ k → ltb t c ≡ f → eqb (a + u + p) t ≡ s → (k || (f || (not s || x))) ≡ ((k || others) || (f || (not s || x)))
+  by-sum true f s ek ef es = refl
+  by-sum false true s ek ef es = or-true others
+  by-sum false false false ek ef es = or-true others
+  by-sum false false true ek ef es =
+      let few = ltb-false mostKeys t ek in
+      let letters = ltb-false t c ef in
+      let sum = eqb-true (a + u + p) t es in
+      rw (le-ltb mostKeys c (omega arith), le-ltb mostKeys a (omega arith), le-ltb mostKeys u (omega arith), le-ltb mostKeys p (omega arith))
+
+module _ (mode : ℕ) (n : Numbers) where
+  pub counts-by-sum : (ltb mostKeys (n .typed) || (ltb (n .typed) (n .count) || (not (eqb (n .acted + n .undone + n .appended) (n .typed)) || (ltb dot (n .tone) || not (isMode mode))))) ≡ numbersWrong mode n
+  counts-by-sum = by-sum (n .typed) (n .count) (n .acted) (n .undone) (n .appended) (ltb dot (n .tone) || not (isMode mode)) _ _ _ refl refl refl
+
+  -- counts in order are at most 32
+  module _ (e : numbersWrong mode n ≡ false) where
+    in-order : over n ≡ false
+    in-order = or-false (over n) _ e .0
+
+    pub typed-small : n .typed ≤ mostKeys
+    typed-small = ltb-false mostKeys (n .typed) (or-false (ltb mostKeys (n .typed)) _ in-order .0)
+
+    pub count-small : n .count ≤ mostKeys
+    count-small = ltb-false mostKeys (n .count) (or-false (ltb mostKeys (n .count)) _ (or-false (ltb mostKeys (n .typed)) _ in-order .1) .0)
+
+-- the range by the questions, one after the other: of the numbers, of the kept keys, of the letters
+front : (f : ℕ → Bool) (l : List ℕ) (n : ℕ) {r : Bool} → r ≡ all f (take (n - 0) (drop 0 l)) → all f (take n l) ≡ r
+front f l n e = let z : n ≡ n - 0 = omega arith in ap (λ (m : ℕ). all f (take m l)) z ∙ sym e
+
+module _ (w : Word) where
+  pub by-numbers : numbersWrong (w .mode) (numbersOf w) ≡ true → outOfRange w ≡ true
+  by-numbers e = rw (range-is w, e)
+
+  module _ (e : numbersWrong (w .mode) (numbersOf w) ≡ false) {r : Bool} (k : r ≡ all (isKey (w .mode)) (take (w .typed - 0) (drop 0 (w .keys)))) where
+    pub by-keys : r ≡ false → outOfRange w ≡ true
+    by-keys f = rw (range-is w, e, front (isKey (w .mode)) (w .keys) (w .typed) k, f)
+
+    pub by-letters : r ≡ true → {q : Bool} → q ≡ all (isLetter (w .mode)) (take (w .count - 0) (drop 0 (w .letters))) → outOfRange w ≡ not q
+    by-letters t l = rw (range-is w, e, front (isKey (w .mode)) (w .keys) (w .typed) k, t, front (isLetter (w .mode)) (w .letters) (w .count) l)

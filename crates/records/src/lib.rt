@@ -5,10 +5,10 @@ ghost use mathlib.Core.Path.{_≡_};
 ghost use Rattle.rules.specs.KeyRoles.{isKey};
 ghost use Rattle.rules.specs.Refusals.{all, outOfRange};
 ghost use Rattle.letters.specs.Writing.{isLetter};
-ghost use Rattle.records.specs.Numbers.{numbersWrong};
+ghost use Rattle.records.specs.Numbers.{numbersOf, numbersWrong};
 
 // The kept keys are allowed in the mode.
-fn keys_allowed(mode: u8, keys: &[u8]) -> bool
+pub fn keys_allowed(mode: u8, keys: &[u8]) -> bool
     ensures { λ r. ⌜ r ≡ all (isKey mode) (now (keys .entry)) ⌝ }
 {
     let mut i = 0;
@@ -22,7 +22,7 @@ fn keys_allowed(mode: u8, keys: &[u8]) -> bool
 }
 
 // Each number is a letter that the mode allows, in a shape that it can carry, and no digit is marked as a capital.
-fn letters_allowed(mode: u8, letters: &[u16]) -> bool
+pub fn letters_allowed(mode: u8, letters: &[u16]) -> bool
     ensures { λ r. ⌜ r ≡ all (isLetter mode) (now (letters .entry)) ⌝ }
 {
     let mut i = 0;
@@ -35,27 +35,50 @@ fn letters_allowed(mode: u8, letters: &[u16]) -> bool
     true
 }
 
-// A count over 32, more letters than keys, counts that do not add up to the keys, a tone or a mode that does not exist.
-fn numbers_wrong(w: Word) -> bool
-    ensures { λ r. ⌜ r ≡ numbersWrong w ⌝ }
+// A word's numbers: its record without the mode, which never changes, and the arrays.
+pub struct Numbers {
+    pub typed: u8,
+    pub acted: u8,
+    pub undone: u8,
+    pub appended: u8,
+    pub count: u8,
+    pub tone: u8,
+    pub closed: bool,
+}
+
+pub fn numbers_of(w: Word) -> Numbers
+    ensures { λ r. ⌜ r ≡ numbersOf w ⌝ }
 {
-    let most = Word::KEYS as u8;
-    let over = (most < w.typed)
-        | ((most < w.count) | ((most < w.acted) | ((most < w.undone) | (most < w.appended))));
-    let sum = w.acted as u16 + w.undone as u16 + w.appended as u16;
-    over
-        | ((w.typed < w.count)
-            | (!(sum == w.typed as u16)
-                | ((DOT < w.tone) | !((w.mode == Word::TELEX) | (w.mode == Word::VNI)))))
+    Numbers {
+        typed: w.typed,
+        acted: w.acted,
+        undone: w.undone,
+        appended: w.appended,
+        count: w.count,
+        tone: w.tone,
+        closed: w.closed,
+    }
+}
+
+// A count over 32, more letters than keys, counts that do not add up to the keys, a tone or a mode that does not exist.
+// No more than 32 keys, no more letters than keys, and a sum that is the keys: so no count is over 32.
+pub fn numbers_wrong(mode: u8, n: Numbers) -> bool
+    ensures { λ r. ⌜ r ≡ numbersWrong mode n ⌝ }
+{
+    let typed = n.typed as usize;
+    ((Word::KEYS as u8) < n.typed)
+        | ((n.typed < n.count)
+            | (!(n.acted as usize + n.undone as usize + n.appended as usize == typed)
+                | ((DOT < n.tone) | !((mode == Word::TELEX) | (mode == Word::VNI)))))
 }
 
 pub fn out_of_range(w: Word) -> bool
     ensures { λ r. ⌜ r ≡ outOfRange w ⌝ }
 {
-    if numbers_wrong(w) {
+    let mode = w.mode;
+    if numbers_wrong(mode, numbers_of(w)) {
         return true;
     }
-    let mode = w.mode;
     let typed = w.typed as usize;
     let keys = w.keys;
     if !keys_allowed(mode, &keys[0..typed]) {

@@ -1,7 +1,7 @@
 -- The answers of text and of show by their tests: refused, or the text put into the output.
 use mathlib.Core.Path.{_≡_, sym, ap, _∙_}
 use mathlib.Core.Bool.{true, false}
-use mathlib.Core.List.{List, map}
+use mathlib.Core.List.{List, [], map}
 use Prim.Native.Nat.{ℕ, _-_, _≤_, _<_}
 use native.Mathlib.Omega.{arith}
 use borrow.Author.Tests.{lt-ltb, le-ltb}
@@ -12,12 +12,11 @@ use Rattle.rules.specs.CodePoints.{shown}
 use Rattle.rules.specs.Refusals.{outOfRange, refusal}
 use Rattle.rules.specs.WhatComesBack.{show}
 use Rattle.rules.specs.declared.Word.{Word}
-use Rattle.rules.specs.declared.Place.{Place}
 use Rattle.rules.specs.declared.WriteAnswer.the-variants.{Wrote, Refused}
 use Rattle.rules.proofs.StaysInRange.{read-front}
 use Rattle.rules.proofs.Range.{few-letters}
 use Rattle.output.specs.Front.{put}
-use Rattle.show.specs.Filling.{textFrom, textOf, textOut}
+use Rattle.show.specs.Filling.{textOf, roomText, textOut}
 use Rattle.show.proofs.Fills.{three-each}
 use Rattle.show.proofs.Texts.{text-of}
 
@@ -30,23 +29,40 @@ module _ (ns : List ℕ) (t : ℕ) (out : List ℕ) where
   unfolding textOut
   few-enough h = simp (le-ltb mostKeys (length ns) h)
 
-  -- the text that is made, and the front of it that is put
-  module _ (few : length ns ≤ mostKeys) (p : Place) (n : ℕ) (many : n ≡ length (textFrom p t 0 ns)) where
-    pub at-most-96 : n ≤ mostBytes
-    at-most-96 = omega (arith, many, three-each p t 0 ns)
+  -- too many letters, or a short output
+  pub none-made : mostKeys < length ns → [] ≡ roomText ns t out
+  unfolding roomText
+  none-made h = rw (roomText, lt-ltb mostKeys (length ns) h)
 
-    pub put-so : (buffer old : List ℕ) → p ≡ tonePlace (map letter ns) t → buffer ≡ atFront (textFrom p t 0 ns) old → put (take (n - 0) buffer) out ≡ textOut ns t out
-    put-so buffer old at b =
-        let made = textFrom p t 0 ns in
-        let m : length made ≡ n - 0 = omega arith in
-        ap (λ (l : List ℕ). put l out) (ap (take (n - 0)) b ∙ read-front made old (n - 0) m ∙ ap (λ (q : Place). textFrom q t 0 ns) at) ∙ sym (few-enough few)
+  module _ (few : length ns ≤ mostKeys) where
+    pub no-room : length out < mostBytes → [] ≡ roomText ns t out
+    unfolding roomText
+    no-room h = rw (roomText, le-ltb mostKeys (length ns) few, lt-ltb (length out) mostBytes h)
+
+    pub in-room : mostBytes ≤ length out → textOf ns t ≡ roomText ns t out
+    unfolding roomText
+    in-room h = rw (roomText, le-ltb mostKeys (length ns) few, le-ltb (length out) mostBytes h)
 
     -- with room for any text it is made where it is put
-    pub made-there : (after : List ℕ) → mostBytes ≤ length out → p ≡ tonePlace (map letter ns) t → after ≡ atFront (textFrom p t 0 ns) out → textOut ns t out ≡ record { answer = Wrote n; output = after }
-    unfolding put refusal
-    made-there after h at b =
-        let text = ap (λ (q : Place). textFrom q t 0 ns) (sym at) in
-        few-enough few ∙ ap (λ (l : List ℕ). put l out) text ∙ simp (le-ltb (length out) (length (textFrom p t 0 ns)) (omega (arith, h, many, at-most-96)), many, b)
+    module _ (n : ℕ) (room : mostBytes ≤ length out) (many : n ≡ length (roomText ns t out)) where
+      long : n ≡ length (textOf ns t)
+      long = many ∙ ap length (sym (in-room room))
+
+      pub at-most-96 : n ≤ mostBytes
+      at-most-96 = omega (arith, long, three-each (tonePlace (map letter ns) t) t 0 ns)
+
+      pub made-there : (after : List ℕ) → after ≡ atFront (roomText ns t out) out → textOut ns t out ≡ record { answer = Wrote n; output = after }
+      unfolding put refusal
+      made-there after b =
+          let made = b ∙ ap (λ (l : List ℕ). atFront l out) (sym (in-room room)) in
+          few-enough few ∙ simp (le-ltb (length out) (length (textOf ns t)) (omega (arith, room, long, at-most-96)), long, made)
+
+-- else it is made in a buffer, and its front put
+pub put-so : (ns : List ℕ) (t : ℕ) (out old buffer : List ℕ) (n : ℕ) → length ns ≤ mostKeys → mostBytes ≤ length old → n ≡ length (roomText ns t old) → buffer ≡ atFront (roomText ns t old) old
+    → put (take (n - 0) buffer) out ≡ textOut ns t out
+put-so ns t out old buffer n few room many b =
+    let m : length (roomText ns t old) ≡ n - 0 = omega arith in
+    ap (λ (l : List ℕ). put l out) (ap (take (n - 0)) b ∙ read-front (roomText ns t old) old (n - 0) m ∙ sym (in-room ns t old few room)) ∙ sym (few-enough ns t out few)
 
 module _ (w : Word) (out : List ℕ) where
   pub refused : outOfRange w ≡ true → show w out ≡ record { answer = Refused (record { number = 8; value = 0 }); output = out }

@@ -4,10 +4,15 @@ use contract.Lifetimes.{Lfts}
 use denote.Ref.{now}
 use denote.Triple.Entry.{Args, Res}
 use denote.Triple.Clauses.{AtExit}
+use Rattle.show.proofs.in_room as in-room
+use Rattle.show.proofs.in_room.Reads as in-room-reads
 use Rattle.show.proofs.text as text
 use Rattle.show.proofs.text.Reads as text-reads
 use Rattle.show.proofs.show as show
 use Rattle.show.proofs.show.Reads as show-reads
+
+pub in-room-one : (κs : Lfts 2) (a : Args in-room.signature κs) (r r′ : Res in-room.signature κs) (e e′ : AtExit in-room.ended κs) → in-room-reads.Post κs a r e → in-room-reads.Post κs a r′ e′ → (r ≡ r′) × (now (e .1 .1 .0) ≡ now (e′ .1 .1 .0))
+in-room-one κs a r r′ e e′ p p′ = (p .0 ∙ sym (p′ .0), p .1 ∙ sym (p′ .1))
 
 pub text-one : (κs : Lfts 2) (a : Args text.signature κs) (r r′ : Res text.signature κs) (e e′ : AtExit text.ended κs) → text-reads.Post κs a r e → text-reads.Post κs a r′ e′ → (r ≡ r′) × (now (e .1 .1 .0) ≡ now (e′ .1 .1 .0))
 text-one κs a r r′ e e′ p p′ = (p .0 ∙ sym (p′ .0), p .1 ∙ sym (p′ .1))

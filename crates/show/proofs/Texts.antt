@@ -5,10 +5,10 @@ use mathlib.Core.List.{List, [], _∷_, _++_, map}
 use Prim.Native.Nat.{ℕ, zero, suc, _+_, _%_, _≤_}
 use native.Mathlib.Omega.{arith}
 use borrow.Author.Tests.{eq-eqb, ne-eqb, le-leb}
-use lib.Dec.{T, eqb, ltb, leb}
+use lib.Dec.{T, eqb, leb}
 use lib.ListN.{take}
 use lib.Ieee.Fits.{and-l, and-r, and-i}
-use Rattle.rules.specs.Letters.{Letters, vni, noTone, dot}
+use Rattle.rules.specs.Letters.{vni, noTone, dot}
 use Rattle.rules.specs.TakingApart.{vowel}
 use Rattle.rules.specs.TonePlace.{tonePlace}
 use Rattle.rules.specs.TheWord.{letter, number, wordOf}
@@ -22,10 +22,8 @@ use Rattle.rules.proofs.Tests.{or-r}
 use Rattle.rules.proofs.Numbers.{NumbersInRange}
 use Rattle.rules.proofs.Range.{in-range}
 use Rattle.rules.proofs.TonePlaces.{vowelAt, tone-on-a-vowel}
-use Rattle.letters.specs.Writing.{isLetter, toneStands, bytesOf, listOf, written}
-use Rattle.letters.specs.declared.LetterBytes.the-variants.{NoLetter}
-use Rattle.letters.proofs.BackAndForth.{list-of-bytes}
-use Rattle.show.specs.Filling.{toneOn, textFrom}
+use Rattle.letters.specs.Writing.{isLetter, toneStands, written}
+use Rattle.show.specs.Filling.{toneIf, toneOn, textFrom}
 
 -- a letter of its word, with a tone that stands there, is written as its bytes
 if-both : {A : Type 0} (p q : Bool) (x y : A) → T p → T q → elim (p && q) [ true ↦ x | false ↦ y ] ≡ x
@@ -33,10 +31,9 @@ if-both true true x y s t = refl
 if-both true false x y s t = absurd t
 if-both false q x y s t = absurd s
 
-as-bytes : (n t : ℕ) → T (isLetter vni n) → T (toneStands n t) → listOf (written n t) ≡ utf8 (point (sign (letter n) t))
+as-bytes : (n t : ℕ) → T (isLetter vni n) → T (toneStands n t) → written n t ≡ utf8 (point (sign (letter n) t))
 unfolding written
-as-bytes n t l s =
-    ap listOf (if-both (isLetter vni n) (toneStands n t) (bytesOf (utf8 (point (sign (letter n) t)))) NoLetter l s) ∙ list-of-bytes (point (sign (letter n) t))
+as-bytes n t l s = if-both (isLetter vni n) (toneStands n t) (utf8 (point (sign (letter n) t))) [] l s
 
 -- letters without a tone
 no-tone-stands : (n : ℕ) → T (toneStands n noTone)
@@ -46,7 +43,7 @@ without : (p : Place) (t i : ℕ) (ns : List ℕ) → T (all (isLetter vni) ns) 
 without p t i [] l off = refl
 without p t i (n ∷ ns) l off =
     ap₂ _++_
-    (ap (λ (u : ℕ). listOf (written n u)) (off i (omega arith)) ∙ as-bytes n noTone (and-l (isLetter vni n) (all (isLetter vni) ns) l) (no-tone-stands n))
+    (ap (written n) (off i (omega arith)) ∙ as-bytes n noTone (and-l (isLetter vni n) (all (isLetter vni) ns) l) (no-tone-stands n))
     (without p t (suc i) ns (and-r (isLetter vni n) (all (isLetter vni) ns) l) (λ k h. off k (omega arith)))
 
 -- the tone on a vowel, the others without
@@ -58,19 +55,16 @@ module _ (t : ℕ) (most : t ≤ dot) where
       go true e s = s
       go false e s = let z : _≡_ {A = ℕ} 0 1 = cc in absurd (omega arith)
 
-  abbrev toneIf : Bool → ℕ
-  toneIf b = elim b [ true ↦ t | false ↦ noTone ]
-
   toned : (i k : ℕ) (ns : List ℕ) → T (all (isLetter vni) ns) → T (vowelAt k (map letter ns)) → textFrom (At (i + k)) t i ns ≡ bytes (toneAt k t (map letter ns))
   toned i k [] l v = absurd v
   toned i zero (n ∷ ns) l v =
       ap₂ _++_
-      (ap (λ (b : Bool). listOf (written n (toneIf b))) (eq-eqb i (i + 0) (omega arith)) ∙ as-bytes n t (and-l (isLetter vni n) (all (isLetter vni) ns) l) (on-vowel n v))
-      (without (At (i + 0)) t (suc i) ns (and-r (isLetter vni n) (all (isLetter vni) ns) l) (λ k h. ap toneIf (ne-eqb k (i + 0) (λ e. omega arith))))
+      (ap (λ (b : Bool). written n (toneIf b t)) (eq-eqb i (i + 0) (omega arith)) ∙ as-bytes n t (and-l (isLetter vni n) (all (isLetter vni) ns) l) (on-vowel n v))
+      (without (At (i + 0)) t (suc i) ns (and-r (isLetter vni n) (all (isLetter vni) ns) l) (λ k h. ap (λ (b : Bool). toneIf b t) (ne-eqb k (i + 0) (λ e. omega arith))))
   toned i (suc k) (n ∷ ns) l v =
       let e : i + suc k ≡ suc i + k = omega arith in
       ap₂ _++_
-      (ap (λ (b : Bool). listOf (written n (toneIf b))) (ne-eqb i (i + suc k) (λ e. omega arith)) ∙ as-bytes n noTone (and-l (isLetter vni n) (all (isLetter vni) ns) l) (no-tone-stands n))
+      (ap (λ (b : Bool). written n (toneIf b t)) (ne-eqb i (i + suc k) (λ e. omega arith)) ∙ as-bytes n noTone (and-l (isLetter vni n) (all (isLetter vni) ns) l) (no-tone-stands n))
       (ap (λ (m : ℕ). textFrom (At m) t (suc i) ns) e ∙ toned (suc i) k ns (and-r (isLetter vni n) (all (isLetter vni) ns) l) v)
 
   signed : (p : Place) (ns : List ℕ) → T (all (isLetter vni) ns) → ((k : ℕ) → p ≡ At k → T (vowelAt k (map letter ns))) → textFrom p t 0 ns ≡ bytes (signsAt p t (map letter ns))

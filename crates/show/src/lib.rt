@@ -3,65 +3,105 @@ ghost use mathlib.Core.Path.{_≡_};
 ghost use Prim.Native.Nat.{_+_, _*_, _≤_};
 ghost use lib.ListN.{length};
 ghost use lib.Seq.{sets};
-ghost use Rattle.rules.specs.TheWord.{atFront};
+ghost use Rattle.rules.specs.TheWord.{letter, atFront};
 ghost use Rattle.rules.specs.WhatComesBack.{show as showOf};
-ghost use Rattle.letters.specs.Writing.{listOf};
-ghost use Rattle.show.specs.Filling.{toneOn, textFrom, textOut};
-use letters::LetterBytes;
+ghost use mathlib.Core.List.{map};
+ghost use Rattle.rules.specs.TonePlace.{tonePlace};
+ghost use Rattle.letters.specs.Writing.{bytesIf, written};
+ghost use Rattle.show.specs.Filling.{toneIf, tonedAt, textFrom, roomText, textOut};
 use rules::NO_TONE;
 use rules::Place;
 use rules::Refusal;
 use rules::Word;
 use rules::WriteAnswer;
 
-// The tone on one letter: the word's on the letter at its place, none on the others.
-fn tone_on(i: usize, place: Place, tone: u8) -> u8
-    ensures { λ r. ⌜ r ≡ toneOn place tone i ⌝ }
+// The UTF-8 bytes of a code point from a place of the text on; the place after them. No code point (0) shows nothing.
+fn put_point(text: &mut [u8], at: usize, point: u16) -> usize
+    requires { ⌜ at + 3 ≤ length (now text) ⌝ }
+    ensures { λ r. ⌜ (r ≡ at + length (bytesIf point)) × (now (text .exit) ≡ sets (now (text .entry)) at (bytesIf point)) ⌝ }
 {
-    let Place::At(at) = place else {
-        return NO_TONE;
-    };
-    if i == at { tone } else { NO_TONE }
+    if point == 0 {
+        return at;
+    }
+    if point < 0x80 {
+        text[at] = point as u8;
+        return at + 1;
+    }
+    if point < 0x800 {
+        text[at] = (0xC0 + point / 64) as u8;
+        text[at + 1] = (0x80 + point % 64) as u8;
+        return at + 2;
+    }
+    text[at] = (0xE0 + point / 4096) as u8;
+    text[at + 1] = (0x80 + point / 64 % 64) as u8;
+    text[at + 2] = (0x80 + point % 64) as u8;
+    at + 3
 }
 
-// The bytes of one letter from a place of the text on; the place after them.
-fn put(text: &mut [u8], at: usize, letter: LetterBytes) -> usize
+// A letter with a tone on it, from a place of the text on; the place after it.
+fn put_marked(text: &mut [u8], at: usize, letter: u16, tone: u8) -> usize
     requires { ⌜ at + 3 ≤ length (now text) ⌝ }
-    ensures { λ r. ⌜ (r ≡ at + length (listOf letter)) × (now (text .exit) ≡ sets (now (text .entry)) at (listOf letter)) ⌝ }
+    ensures { λ r. ⌜ (r ≡ at + length (written letter tone)) × (now (text .exit) ≡ sets (now (text .entry)) at (written letter tone)) ⌝ }
 {
-    match letter {
-        LetterBytes::One(a) => {
-            text[at] = a;
-            at + 1
-        }
-        LetterBytes::Two(a, b) => {
-            text[at] = a;
-            text[at + 1] = b;
-            at + 2
-        }
-        LetterBytes::Three(a, b, c) => {
-            text[at] = a;
-            text[at + 1] = b;
-            text[at + 2] = c;
-            at + 3
-        }
-        LetterBytes::NoLetter => at,
+    put_point(text, at, letters::point(letter, tone))
+}
+
+// One letter, with the tone or with none. A plain small letter is its own byte, and most are such.
+fn put_letter(text: &mut [u8], at: usize, letter: u16, toned: bool, tone: u8) -> usize
+    requires { ⌜ at + 3 ≤ length (now text) ⌝ }
+    ensures { λ r. ⌜ (r ≡ at + length (written letter (toneIf toned tone))) × (now (text .exit) ≡ sets (now (text .entry)) at (written letter (toneIf toned tone))) ⌝ }
+{
+    if toned {
+        return put_marked(text, at, letter, tone);
     }
+    if letters::is_plain(letter) {
+        text[at] = letter as u8;
+        return at + 1;
+    }
+    put_marked(text, at, letter, NO_TONE)
+}
+
+// The letter that carries the tone; behind the last where none does.
+fn toned(letters: &[u16], tone: u8) -> usize
+    ensures { λ r. ⌜ r ≡ tonedAt (tonePlace (map letter (now (letters .entry))) tone) (length (now (letters .entry))) ⌝ }
+{
+    let n = letters.len();
+    if tone == NO_TONE {
+        return n;
+    }
+    let place = parts::tone_place(letters, tone);
+    let Place::At(at) = place else {
+        return n;
+    };
+    at
 }
 
 // The bytes of the letters, with the tone on the one at its place, at the front of the text; how many they are.
-fn fill(text: &mut [u8], letters: &[u16], place: Place, tone: u8) -> usize
+fn fill(text: &mut [u8], letters: &[u16], toned: usize, tone: u8) -> usize
     requires { ⌜ 3 * length (now letters) ≤ length (now text) ⌝ }
-    ensures { λ r. ⌜ (r ≡ length (textFrom place tone 0 (now (letters .entry)))) × (now (text .exit) ≡ atFront (textFrom place tone 0 (now (letters .entry))) (now (text .entry))) ⌝ }
+    ensures { λ r. ⌜ (r ≡ length (textFrom (Place.At toned) tone 0 (now (letters .entry)))) × (now (text .exit) ≡ atFront (textFrom (Place.At toned) tone 0 (now (letters .entry))) (now (text .entry))) ⌝ }
 {
     let mut at = 0;
     let mut i = 0;
     while i < letters.len() {
-        let letter = letters::utf8(letters[i], tone_on(i, place, tone));
-        at = put(text, at, letter);
+        at = put_letter(text, at, letters[i], i == toned, tone);
         i += 1;
     }
     at
+}
+
+// The text in an output with room for any text; the bytes written. Of more than 32 letters, or in a shorter output, nothing is written, and 0.
+pub fn in_room(letters: &[u16], tone: u8, out: &mut [u8]) -> usize
+    ensures { λ r. ⌜ (r ≡ length (roomText (now (letters .entry)) tone (now (out .entry)))) × (now (out .exit) ≡ atFront (roomText (now (letters .entry)) tone (now (out .entry))) (now (out .entry))) ⌝ }
+{
+    if Word::KEYS < letters.len() {
+        return 0;
+    }
+    if out.len() < Word::TEXT {
+        return 0;
+    }
+    let place = toned(letters, tone);
+    fill(out, letters, place, tone)
 }
 
 // The text of letters with the tone on the one at its place, at the front of the output. A number that is no letter shows nothing.
@@ -75,13 +115,12 @@ pub fn text(letters: &[u16], tone: u8, out: &mut [u8]) -> WriteAnswer
             value: Word::KEYS,
         });
     }
-    let place = parts::tone_place(letters, tone);
     // With room for any text it is made where it is to stand; else it is made first, and its length then known.
     if Word::TEXT <= out.len() {
-        return WriteAnswer::Wrote(fill(out, letters, place, tone));
+        return WriteAnswer::Wrote(in_room(letters, tone, out));
     }
     let mut made = [0; Word::TEXT];
-    let needed = fill(&mut made, letters, place, tone);
+    let needed = in_room(letters, tone, &mut made);
     output::write(&made[0..needed], out)
 }
 

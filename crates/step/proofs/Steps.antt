@@ -1,10 +1,11 @@
 -- The step's answer by its tests; and a key kept and counted is the word with the key typed.
-use mathlib.Core.Path.{_≡_, sym, ap, _∙_}
-use mathlib.Core.Bool.{Bool, true, false}
+use mathlib.Core.Path.{_≡_, sym, ap, subst, _∙_}
+use mathlib.Core.Bool.{Bool, true, false, not}
 use mathlib.Core.List.{List, [], _∷_, _++_, append-assoc}
 use Prim.Native.Nat.{ℕ, suc, _+_, _≤_, _<_}
 use native.Mathlib.Numerals.{add-one}
 use native.Mathlib.Omega.{arith}
+use lib.Dec.{T}
 use lib.ListN.{length, take, drop, set, length-append}
 use lib.Seq.{length-take-le, set-split}
 use borrow.Author.Tests.{lt-ltb, le-ltb}
@@ -14,12 +15,15 @@ use Rattle.rules.specs.Refusals.{placeOfByte, outOfRange, refusal}
 use Rattle.rules.specs.WhatComesBack.{step}
 use Rattle.rules.specs.declared.Word.{Word}
 use Rattle.rules.specs.declared.Step.{Step}
-use Rattle.rules.specs.declared.StepAnswer.the-variants.{Did}
+use Rattle.rules.specs.declared.StepAnswer.the-variants.{Did, Refused}
 use Rattle.rules.proofs.Numbers.{numbers-letters, fine-letters}
-use Rattle.rules.proofs.Range.{InRange}
+use Rattle.rules.proofs.Range.{InRange, in-range}
 use Rattle.step.specs.declared.Counts.{Counts}
 use Rattle.step.specs.declared.Done as Answer
-use Rattle.step.specs.Held.{Ready, Room, Does, countedIn, didOf, refusedOf}
+use Rattle.step.specs.Held.{Ready, Room, Does, countedIn, didOf}
+
+pub in-range-of : (w : Word) → outOfRange w ≡ false → InRange w
+in-range-of w e = in-range w (subst (λ (b : Bool). T (not b)) (sym e) tt)
 
 -- a record in range with room for a key is ready for it
 pub ready : (w : Word) → InRange w → w .typed < mostKeys → Ready w
@@ -73,22 +77,25 @@ module _ (w : Word) (k : ℕ) (room : w .typed < mostKeys) (whole : length (w .k
       λ i. together (p .told i) (p .left i) (c i) (keys-kept i) (typed-then i)
 
 -- the answer by the tests
+abbrev refusedWith : Word → ℕ → ℕ → Step
+refusedWith w number value = record { answer = Refused (record { number = number; value = value }); word = w }
+
 module _ (w : Word) (k : ℕ) where
-  pub out-of-range : outOfRange w ≡ true → step w k ≡ refusedOf w 8 0
+  pub out-of-range : outOfRange w ≡ true → refusedWith w 8 0 ≡ step w k
   unfolding step refusal
   out-of-range e = simp e
 
-  pub full : outOfRange w ≡ false → mostKeys ≤ w .typed → step w k ≡ refusedOf w 2 mostKeys
+  pub full : outOfRange w ≡ false → mostKeys ≤ w .typed → refusedWith w 2 mostKeys ≡ step w k
   unfolding step refusal
   full e h = simp (e, lt-ltb mostKeys (w .typed + 1) (omega arith))
 
   byte-place : isKey (w .mode) k ≡ false → placeOfByte (record { mode = w .mode; already = w .typed; bytes = k ∷ [] }) ≡ w .typed
   byte-place n = let e : w .typed + 0 ≡ w .typed = omega arith in ap (λ (b : Bool). w .typed + elim b [ true ↦ 1 | false ↦ 0 ]) n ∙ e
 
-  pub no-key : outOfRange w ≡ false → w .typed < mostKeys → isKey (w .mode) k ≡ false → step w k ≡ refusedOf w 3 (w .typed)
+  pub no-key : outOfRange w ≡ false → w .typed < mostKeys → isKey (w .mode) k ≡ false → refusedWith w 3 (w .typed) ≡ step w k
   unfolding step refusal
-  no-key e h n = simp (e, le-ltb mostKeys (w .typed + 1) (omega arith), n) (ap (refusedOf w 3) (byte-place n))
+  no-key e h n = simp (e, le-ltb mostKeys (w .typed + 1) (omega arith), n) (ap (refusedWith w 3) (sym (byte-place n)))
 
-  pub accepted : outOfRange w ≡ false → w .typed < mostKeys → isKey (w .mode) k ≡ true → step w k ≡ didOf w k (keyDoes (wordOf w) k)
+  pub accepted : outOfRange w ≡ false → w .typed < mostKeys → isKey (w .mode) k ≡ true → didOf w k (keyDoes (wordOf w) k) ≡ step w k
   unfolding step refusal
   accepted e h n = simp (e, le-ltb mostKeys (w .typed + 1) (omega arith), n)

@@ -1,5 +1,6 @@
 -- What a rule of document 01 leaves in the array of letters and in the state beside it, and the step's two answers. Only contracts of private functions cite what stands here.
 use mathlib.Core.Path.{_≡_}
+use mathlib.Core.Bool.{Bool, true, false}
 use mathlib.Core.List.{List, map}
 use Prim.Native.Nat.{ℕ, _+_, _≤_, _<_}
 use Prim.Native.Char.{code}
@@ -10,9 +11,13 @@ use Rattle.rules.proofs.Numbers.{AllFine}
 use Rattle.rules.specs.KeyRoles as Rules
 use Rattle.rules.specs.KeyRoles.{append, undo, nothing, off, change}
 use Rattle.rules.specs.declared.Word.{Word}
+use Rattle.rules.specs.declared.Role.{Role}
+use Rattle.rules.specs.declared.Role.the-variants.{NoRole}
 use Rattle.rules.specs.declared.Outcome.{Outcome}
 use Rattle.rules.specs.declared.Step.{Step}
 use Rattle.rules.specs.declared.StepAnswer.the-variants.{Did, Refused}
+use Rattle.records.specs.declared.Numbers.{Numbers}
+use Rattle.step.specs.declared.StepIn.{StepIn}
 use Rattle.step.specs.declared.Edit.{Edit}
 use Rattle.step.specs.declared.Edit.the-variants.{Nothing, Off, Change}
 use Rattle.step.specs.declared.Rest.{Rest}
@@ -101,9 +106,14 @@ withTone r t = record { count = r .count; tone = t; closed = r .closed }
 abbrev pub countedIn : Counts → Outcome → Counts
 countedIn n o = record { acted = oneMore (isActed o) (n .acted); undone = oneMore (isUndone o) (n .undone); appended = oneMore (isAppended o) (n .appended) }
 
+-- a closed word's keys have no role
+abbrev pub unlessClosedRole : Bool → Role → Role
+unlessClosedRole true r = NoRole
+unlessClosedRole false r = r
+
 -- the step's answer where it is not refused, and where it is
 abbrev pub didOf : Word → ℕ → Done → Step
 didOf w k d = record { answer = Did (outcomeOf d); word = holding w (counted (wordOf w) k d) }
 
-abbrev pub refusedOf : Word → ℕ → ℕ → Step
-refusedOf w n v = record { answer = Refused (record { number = n; value = v }); word = w }
+abbrev pub refusedOf : Numbers → ℕ → ℕ → StepIn
+refusedOf n number value = record { answer = Refused (record { number = number; value = value }); numbers = n }

@@ -13,9 +13,9 @@ ghost use mathlib.Core.Path.{_≡_};
 ghost use mathlib.Core.List.{map};
 ghost use Prim.Native.Nat.{_+_, _<_};
 ghost use lib.ListN.{length, take};
-ghost use Rattle.rules.specs.Letters.{horn, is};
+ghost use Rattle.rules.specs.Letters.{circumflex, horn, is};
 ghost use Rattle.rules.specs.TheWord.{letter};
-ghost use Rattle.rules.specs.KeyRoles.{asked as askedOf, last, horned, shapeEdit, strokeEdit};
+ghost use Rattle.rules.specs.KeyRoles.{asked as askedOf, last, circumflexOn, horned, shapeEdit, strokeEdit};
 ghost use Rattle.targets.specs.Places.{wanted};
 ghost use Rattle.targets.specs.Aims.{oneAt, pairAt};
 ghost use Rattle.step.specs.Held.{Given, Aimed, Edits, paired, dee};
@@ -105,6 +105,18 @@ fn last_edit(letters: &mut [u16], count: usize, key: ShapeKey, kind: u8) -> Edit
     at(letters, count, i, kind)
 }
 
+// A circumflex on the last letter that its Telex key wants.
+fn own_edit(letters: &mut [u16], count: usize, own: u8) -> Edit
+    requires { ⌜ Given (now letters) count ⌝ }
+    ensures { λ r. ⌜ Edits (askedOf circumflex (circumflexOn own (map letter (take count (now (letters .entry)))))) (now (letters .entry)) r (now (letters .exit)) ⌝ }
+{
+    let place = targets::last_own(&letters[0..count], own);
+    let Place::At(i) = place else {
+        return Edit::Nothing;
+    };
+    at(letters, count, i, CIRCUMFLEX)
+}
+
 // Telex w: the horn's edit, or where that is none the breve's.
 fn horn_or_breve(letters: &mut [u16], count: usize) -> Edit
     requires { ⌜ Given (now letters) count ⌝ }
@@ -122,7 +134,7 @@ pub(crate) fn shape_edit(letters: &mut [u16], count: usize, key: ShapeKey) -> Ed
     ensures { λ r. ⌜ Edits (shapeEdit key (map letter (take count (now (letters .entry))))) (now (letters .entry)) r (now (letters .exit)) ⌝ }
 {
     match key {
-        ShapeKey::CircumflexOn(_) => last_edit(letters, count, key, CIRCUMFLEX),
+        ShapeKey::CircumflexOn(own) => own_edit(letters, count, own),
         ShapeKey::Circumflex => last_edit(letters, count, key, CIRCUMFLEX),
         ShapeKey::Breve => last_edit(letters, count, key, BREVE),
         ShapeKey::Horn => horn_edit(letters, count),

@@ -1,4 +1,5 @@
 // One key typed into a word: refused, or acted, undone or appended by the rules of its role, and counted.
+use records::Numbers;
 use rules::Act;
 use rules::NO_TONE;
 use rules::Outcome;
@@ -9,13 +10,16 @@ use rules::StepAnswer;
 use rules::ToneKey;
 use rules::Word;
 ghost use mathlib.Core.Path.{_≡_};
-ghost use mathlib.Core.List.{map};
-ghost use Prim.Native.Nat.{_≤_};
-ghost use Rattle.rules.specs.TheWord.{wordOf, letter, appended as appendedOf, undone as undoneOf};
-ghost use Rattle.rules.specs.KeyRoles.{letterOfKey, append as appendOf, undo as undoOf, toneGoes, toneDoes, unlessClosed, role as roleOf, keyDoes as keyDoesOf};
+ghost use mathlib.Core.Bool.{true, false};
+ghost use Prim.Native.Nat.{_≤_, _<_};
+ghost use lib.ListN.{length};
+ghost use Rattle.rules.specs.TheWord.{mostKeys, appended as appendedOf, undone as undoneOf};
+ghost use Rattle.rules.specs.KeyRoles.{letterOfKey, append as appendOf, undo as undoOf, toneDoes, unlessClosed, role as roleOf, isKey};
+ghost use Rattle.rules.specs.Refusals.{outOfRange};
 ghost use Rattle.rules.proofs.Numbers.{AllFine};
 ghost use Rattle.rules.specs.WhatComesBack.{step as stepOf};
-ghost use Rattle.step.specs.Held.{Ready, Room, Leaves, Does, stateIn, afterEdit, withTone, countedIn, didOf, refusedOf};
+ghost use Rattle.step.specs.Held.{Room, Leaves, Does, stateIn, afterEdit, withTone, countedIn, unlessClosedRole, refusedOf};
+ghost use Rattle.step.specs.LentWord.{wordIn, stepIn};
 
 mod edits;
 
@@ -46,9 +50,11 @@ fn append(letters: &mut [u16], rest: Rest, key: u8) -> Rest
 {
     let n = rest.count as usize;
     letters[n] = keys::letter_of_key(key);
-    let mut next = rest;
-    next.count = rest.count + 1;
-    next
+    Rest {
+        count: rest.count + 1,
+        tone: rest.tone,
+        closed: rest.closed,
+    }
 }
 
 fn appended(letters: &mut [u16], rest: Rest, key: u8) -> Done
@@ -66,20 +72,25 @@ fn undone(letters: &mut [u16], rest: Rest, key: u8) -> Done
     requires { ⌜ Room (now letters) (rest .count) ⌝ }
     ensures { λ r. ⌜ Does (undoneOf (undoOf (stateIn (now (letters .entry)) rest) (letterOfKey key))) (now (letters .entry)) r (now (letters .exit)) ⌝ }
 {
-    let mut next = append(letters, rest, key);
-    next.closed = true;
+    let next = append(letters, rest, key);
     Done {
         outcome: Outcome::Undone,
-        rest: next,
+        rest: Rest {
+            count: next.count,
+            tone: next.tone,
+            closed: true,
+        },
     }
 }
 
 fn with_tone(rest: Rest, tone: u8) -> Rest
     ensures { λ r. ⌜ r ≡ withTone rest tone ⌝ }
 {
-    let mut next = rest;
-    next.tone = tone;
-    next
+    Rest {
+        count: rest.count,
+        tone: tone,
+        closed: rest.closed,
+    }
 }
 
 // Tone key: an undo if that tone is there already; else the tone, if the letters are admitted and it fits the final.
@@ -102,19 +113,13 @@ fn tone_key(letters: &mut [u16], rest: Rest, key: u8, role: ToneKey) -> Done
         return undone(letters, with_tone(rest, NO_TONE), key);
     }
     let n = rest.count as usize;
-    if tone_goes(&letters[0..n], wanted) {
+    if syllable::takes_tone(&letters[0..n], wanted) {
         return Done {
             outcome: Outcome::Acted(Act::Tone(wanted)),
             rest: with_tone(rest, wanted),
         };
     }
     appended(letters, rest, key)
-}
-
-fn tone_goes(word: &[u16], tone: u8) -> bool
-    ensures { λ r. ⌜ r ≡ toneGoes tone (map letter (now (word .entry))) ⌝ }
-{
-    syllable::admitted(word) & syllable::fits(word, tone)
 }
 
 // What an edit of the letters does: nothing is an appended key, a mark taken off an undo, a change an act.
@@ -134,16 +139,23 @@ fn edit_does(letters: &mut [u16], rest: Rest, key: u8, edit: Edit) -> Done
     appended(letters, rest, key)
 }
 
-// What a key does by its role: a closed word appends it, and so does a word for which it has none.
+// In a closed word no key has a role.
+fn role_in(closed: bool, mode: u8, key: u8) -> Role
+    ensures { λ r. ⌜ r ≡ unlessClosedRole closed (roleOf mode key) ⌝ }
+{
+    if closed {
+        return Role::NoRole;
+    }
+    keys::role(mode, key)
+}
+
+// What a key does by its role: one that has none is appended.
 fn key_does(letters: &mut [u16], rest: Rest, mode: u8, key: u8) -> Done
     requires { ⌜ Room (now letters) (rest .count) × AllFine mode (stateIn (now letters) rest .letters) ⌝ }
     ensures { λ r. ⌜ Does (unlessClosed (rest .closed) (roleOf mode key) (stateIn (now (letters .entry)) rest) (letterOfKey key)) (now (letters .entry)) r (now (letters .exit)) ⌝ }
 {
-    if rest.closed {
-        return appended(letters, rest, key);
-    }
     let count = rest.count as usize;
-    let role = keys::role(mode, key);
+    let role = role_in(rest.closed, mode, key);
     match role {
         Role::ToneRole(tone) => tone_key(letters, rest, key, tone),
         Role::ShapeRole(shape) => {
@@ -183,74 +195,116 @@ fn counted(counts: Counts, outcome: Outcome) -> Counts
     next
 }
 
-// A key that the word has room for and its mode allows, typed: kept, and counted by what it did.
-// The word is put together once, at the end: a record that is handed on by value is copied each time.
-fn typed(w: Word, key: u8) -> Step
-    requires { ⌜ Ready w × (w .acted ≤ 32) × (w .undone ≤ 32) × (w .appended ≤ 32) ⌝ }
-    ensures { λ r. ⌜ r ≡ didOf w key (keyDoesOf (wordOf w) key) ⌝ }
+// What a step gives where the word's arrays are lent: its answer, and the word's numbers then.
+pub struct StepIn {
+    pub answer: StepAnswer,
+    pub numbers: Numbers,
+}
+
+// A key that a word in range has room for and its mode allows: kept, and counted by what it did.
+fn typed(letters: &mut [u16], keys: &mut [u8], mode: u8, n: Numbers, key: u8) -> StepIn
+    requires { ⌜ (length (now letters) ≡ mostKeys) × (length (now keys) ≡ mostKeys) × (outOfRange (wordIn mode (now letters) (now keys) n) ≡ false) × (n .typed < mostKeys) × (isKey mode key ≡ true) ⌝ }
+    ensures { λ r. ⌜ stepIn mode (now (letters .exit)) (now (keys .exit)) r ≡ stepOf (wordIn mode (now (letters .entry)) (now (keys .entry)) n) key ⌝ }
 {
-    let mut letters = w.letters;
     let rest = Rest {
-        count: w.count,
-        tone: w.tone,
-        closed: w.closed,
+        count: n.count,
+        tone: n.tone,
+        closed: n.closed,
     };
-    let done = key_does(&mut letters, rest, w.mode, key);
+    let done = key_does(letters, rest, mode, key);
     let outcome = done.outcome;
     let now = done.rest;
-    let mut keys = w.keys;
-    let n = w.typed as usize;
-    keys[n] = key;
+    let at = n.typed as usize;
+    keys[at] = key;
     let counts = counted(
         Counts {
-            acted: w.acted,
-            undone: w.undone,
-            appended: w.appended,
+            acted: n.acted,
+            undone: n.undone,
+            appended: n.appended,
         },
         outcome,
     );
-    Step {
+    StepIn {
         answer: StepAnswer::Did(outcome),
-        word: Word {
-            mode: w.mode,
-            letters: letters,
-            count: now.count,
-            tone: now.tone,
-            closed: now.closed,
-            keys: keys,
-            typed: w.typed + 1,
+        numbers: Numbers {
+            typed: n.typed + 1,
             acted: counts.acted,
             undone: counts.undone,
             appended: counts.appended,
+            count: now.count,
+            tone: now.tone,
+            closed: now.closed,
         },
     }
 }
 
-fn refused(w: Word, number: u8, value: usize) -> Step
-    ensures { λ r. ⌜ r ≡ refusedOf w number value ⌝ }
+fn refused(n: Numbers, number: u8, value: usize) -> StepIn
+    ensures { λ r. ⌜ r ≡ refusedOf n number value ⌝ }
 {
-    Step {
+    StepIn {
         answer: StepAnswer::Refused(Refusal {
             number: number,
             value: value,
         }),
-        word: w,
+        numbers: n,
     }
+}
+
+// One key, typed into a word whose letters and keys are lent and changed where they lie: a record that is handed on by value is copied each time.
+// Refusals: 8, 2, 3; the word is then as it was.
+pub fn step_in(
+    letters: &mut [u16; 32],
+    keys: &mut [u8; 32],
+    mode: u8,
+    n: Numbers,
+    key: u8,
+) -> StepIn
+    ensures { λ r. ⌜ stepIn mode (now (letters .exit)) (now (keys .exit)) r ≡ stepOf (wordIn mode (now (letters .entry)) (now (keys .entry)) n) key ⌝ }
+{
+    if records::numbers_wrong(mode, n) {
+        return refused(n, 8, 0);
+    }
+    let at = n.typed as usize;
+    let kept = &keys[..];
+    if !records::keys_allowed(mode, &kept[0..at]) {
+        return refused(n, 8, 0);
+    }
+    let count = n.count as usize;
+    let held = &letters[..];
+    if !records::letters_allowed(mode, &held[0..count]) {
+        return refused(n, 8, 0);
+    }
+    if Word::KEYS <= at {
+        return refused(n, 2, Word::KEYS);
+    }
+    if !keys::is_key(mode, key) {
+        return refused(n, 3, at);
+    }
+    typed(letters, keys, mode, n, key)
 }
 
 // One key. Refusals: 8, 2, 3; the word is then as it was.
 pub fn step(w: Word, key: u8) -> Step
     ensures { λ r. ⌜ r ≡ stepOf w key ⌝ }
 {
-    if records::out_of_range(w) {
-        return refused(w, 8, 0);
+    let mut letters = w.letters;
+    let mut keys = w.keys;
+    let done = step_in(&mut letters, &mut keys, w.mode, records::numbers_of(w), key);
+    let answer = done.answer;
+    let n = done.numbers;
+    Step {
+        answer: answer,
+        word: Word {
+            mode: w.mode,
+            letters: letters,
+            count: n.count,
+            tone: n.tone,
+            closed: n.closed,
+            keys: keys,
+            typed: n.typed,
+            acted: n.acted,
+            undone: n.undone,
+            appended: n.appended,
+        },
     }
-    let count = w.typed as usize;
-    if Word::KEYS <= count {
-        return refused(w, 2, Word::KEYS);
-    }
-    if !keys::is_key(w.mode, key) {
-        return refused(w, 3, count);
-    }
-    typed(w, key)
 }

@@ -7,7 +7,7 @@ use native.Mathlib.Omega.{arith}
 use lib.Dec.{T, eqb, leb, ltb}
 use lib.ListN.{length, getD}
 use lib.Ieee.Fits.{and-l, and-r}
-use borrow.Author.Tests.{eq-eqb, ne-eqb, eqb-true, eqb-false, ltb-true, lt-ltb, lt-leb, le-leb}
+use borrow.Author.Tests.{eq-eqb, ne-eqb, ltb-true, lt-ltb, lt-leb, le-leb}
 use Rattle.rules.specs.Letters.{Letter, Letters, elem, word, is, same, oneOf, isNil, firstBase}
 use Rattle.rules.specs.TakingApart.{twoOrMore}
 use Rattle.rules.specs.TheWord.{letter}

@@ -1,9 +1,8 @@
 pub mod Codes
-pub mod Small
 pub mod Keys
 pub mod Rows
 pub mod Agreements
 pub mod Bases
 pub mod Searches
-pub mod Sights
+pub mod Asks
 pub mod One

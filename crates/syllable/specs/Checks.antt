@@ -1,23 +1,19 @@
--- What the code answers of the checks on a word's parts, as equations to document 01's definitions.
-use mathlib.Core.Bool.{Bool, not}
-use mathlib.Core.List.{[], _∷_}
+-- What the code answers of the checks on a word, as equations to document 01's definitions.
+use mathlib.Core.Bool.{Bool, true, false, not}
+use mathlib.Core.List.{[], _∷_, _++_}
 use Prim.Native.Nat.{ℕ}
-use Rattle.rules.specs.Letters.{Letters, oneOf, isNil, firstBase}
-use Rattle.rules.specs.TakingApart.{initial, nucleus, final, initials, fit, finals, check, firstThatHolds, oneToFive}
-use Rattle.syllable.specs.Numbers.{code}
-use Rattle.syllable.specs.declared.Seen.{Seen}
+use Rattle.rules.specs.Letters.{Letters, oneOf}
+use Rattle.rules.specs.TakingApart.{initial, nucleus, final, initials, fit, listed, someAgrees, fits, check, firstThatHolds, oneToFive}
 
--- the first of checks 1 to 5 that holds, of the parts
-abbrev pub firstOfFive : (ini nuc fin : Letters) → (leftover : Bool) → ℕ
-firstOfFive ini nuc fin leftover =
-    firstThatHolds (
-    check 1 (isNil nuc) ∷
-    check 2 (not (oneOf ini initials)) ∷
-    check 3 leftover ∷
-    check 4 (not (fit ini (firstBase nuc))) ∷
-    check 5 (not (oneOf fin finals)) ∷
-    [])
+-- the first of the two checks on an initial that holds, by the first vowel's base
+abbrev pub initialFault : Letters → ℕ → ℕ
+initialFault ini v = firstThatHolds (check 2 (not (oneOf ini initials)) ∷ check 4 (not (fit ini v)) ∷ [])
 
--- and of a word, with its parts as numbers
-abbrev pub seenOf : Letters → Seen
-seenOf w = record { first = firstThatHolds (oneToFive w); ini = code (initial w); nuc = code (nucleus w); fin = code (final w) }
+-- what check 6 asks for: the nucleus is listed or, where it is free, some listed nucleus agrees
+abbrev pub sixth : Bool → Letters → Bool
+sixth true w = someAgrees (initial w) (nucleus w) (final w)
+sixth false w = listed (initial w) (nucleus w) (final w)
+
+-- the first check that holds, or 0
+unfoldable pub asked : Letters → (tone : ℕ) → (free : Bool) → ℕ
+asked w tone free = firstThatHolds (oneToFive w ++ (check 6 (not (sixth free w)) ∷ check 7 (not (fits (final w) tone)) ∷ []))

@@ -5,9 +5,10 @@ ghost use mathlib.Core.List.{map};
 ghost use Prim.Native.Nat.{_<_};
 ghost use Rattle.rules.specs.Letters.{Letters, oneOf, firstBase};
 ghost use Rattle.rules.specs.TheWord.{letter};
-ghost use Rattle.rules.specs.TakingApart.{final, initials, fit as fitOf, finals, stop as stopOf, fits as fitsOf, verdict as verdictOf, admitted as admittedOf};
+ghost use Rattle.rules.specs.TakingApart.{finals, stop as stopOf, fits as fitsOf, verdict as verdictOf, admitted as admittedOf};
+ghost use Rattle.rules.specs.KeyRoles.{toneGoes};
 ghost use Rattle.syllable.specs.Numbers.{digitAt, code as codeOf, Codes};
-ghost use Rattle.syllable.specs.Checks.{firstOfFive, seenOf};
+ghost use Rattle.syllable.specs.Checks.{initialFault, asked};
 
 mod nuclei;
 mod words;
@@ -40,30 +41,22 @@ fn code(part: &[u16]) -> u64
     three
 }
 
-// Initials: none, and these.
-fn known_initial(ini: u64) -> bool
-    ensures { λ r. ⌜ ((w : Letters) → Codes ini w → r ≡ oneOf w initials) ⌝ }
+// An initial: 2 if it is unknown, 4 if it does not fit the first vowel, by its base; else 0.
+fn initial_fault(ini: u64, v: u8) -> u8
+    ensures { λ r. ⌜ ((w : Letters) → Codes ini w → r ≡ initialFault w v) ⌝ }
 {
-    match ini {
-        NONE | B | C | D | DD | G | H | K | L | M | N | P | R | S | T | V | X => true,
-        CH | GH | GI | KH | NG | NH | PH | QU | TH | TR | NGH => true,
-        _ => false,
-    }
-}
-
-// Fit, by base vowel.
-fn fit(ini: u64, v: u8) -> bool
-    ensures { λ r. ⌜ ((w : Letters) → Codes ini w → r ≡ fitOf w v) ⌝ }
-{
-    match ini {
+    let fits = match ini {
+        NONE | B | D | DD | H | L | M | N | P | R | S | T | V | X => true,
+        CH | KH | NH | PH | TH | TR => true,
         C | NG => !((v == b'e') | ((v == b'i') | (v == b'y'))),
         G => !((v == b'e') | (v == b'y')),
         K => (v == b'e') | ((v == b'i') | (v == b'y')),
         GH | NGH => (v == b'e') | (v == b'i'),
         GI => !((v == b'i') | (v == b'y')),
         QU => !(v == b'u'),
-        _ => true,
-    }
+        _ => return 2,
+    };
+    if fits { 0 } else { 4 }
 }
 
 // Finals: none, and these.
@@ -93,56 +86,6 @@ fn first_base(p: u64) -> u8
     (p % SHAPE / 2) as u8
 }
 
-// Checks 1 to 5 of the verdict: the first that holds, or 0.
-fn first_of_five(ini: u64, nuc: u64, fin: u64, leftover: bool) -> u8
-    ensures { λ r. ⌜ ((w v f : Letters) → Codes ini w → Codes nuc v → Codes fin f → r ≡ firstOfFive w v f leftover) ⌝ }
-{
-    if nuc == NONE {
-        return 1;
-    }
-    if !known_initial(ini) {
-        return 2;
-    }
-    if leftover {
-        return 3;
-    }
-    if !fit(ini, first_base(nuc)) {
-        return 4;
-    }
-    if !known_final(fin) {
-        return 5;
-    }
-    0
-}
-
-// What a word is asked: the first of checks 1 to 5 that holds, or 0; and its parts as numbers.
-struct Seen {
-    first: u8,
-    ini: u64,
-    nuc: u64,
-    fin: u64,
-}
-
-// The one look that verdict and admission take at a word.
-fn look(s: &[u16]) -> Seen
-    ensures { λ r. ⌜ r ≡ seenOf (map letter (now (s .entry))) ⌝ }
-{
-    let parts = parts::apart(s);
-    let i = parts.initial;
-    let n = parts.nucleus;
-    let f = parts.end;
-    let ini = code(&s[0..i]);
-    let nuc = code(&s[i..n]);
-    let fin = code(&s[n..f]);
-    let first = first_of_five(ini, nuc, fin, f != s.len());
-    Seen {
-        first: first,
-        ini: ini,
-        nuc: nuc,
-        fin: fin,
-    }
-}
-
 // Fits: tone 1 or 5, or the final is no stop.
 fn tone_fits(fin: u64, tone: u8) -> bool
     ensures { λ r. ⌜ ((f : Letters) → Codes fin f → r ≡ fitsOf f tone) ⌝ }
@@ -150,42 +93,65 @@ fn tone_fits(fin: u64, tone: u8) -> bool
     ((tone == ACUTE) | (tone == DOT)) | !stop(fin)
 }
 
-// The verdict on the letters with this tone: the first check that holds, or 0.
-pub fn verdict(s: &[u16], tone: u8) -> u8
-    ensures { λ r. ⌜ r ≡ verdictOf (map letter (now (s .entry))) tone ⌝ }
+// The first of the seven checks that holds, or 0: the one look that verdict and admission take at a word.
+// Check 6 asks for the nucleus as it stands; where its letters are free, for some listed nucleus that could still come of them.
+fn ask(s: &[u16], tone: u8, free: bool) -> u8
+    ensures { λ r. ⌜ r ≡ asked (map letter (now (s .entry))) tone free ⌝ }
 {
-    let w = look(s);
-    let first = w.first;
-    if first != 0 {
-        return first;
+    let parts = parts::apart(s);
+    let i = parts.initial;
+    let n = parts.nucleus;
+    let f = parts.end;
+    if i == n {
+        return 1;
     }
-    if !listed(w.ini, w.nuc, w.fin) {
-        return 6;
+    let ini = code(&s[0..i]);
+    let nuc = code(&s[i..n]);
+    let fault = initial_fault(ini, first_base(nuc));
+    if fault == 2 {
+        return 2;
     }
-    if !tone_fits(w.fin, tone) {
+    if f != s.len() {
+        return 3;
+    }
+    if fault == 4 {
+        return 4;
+    }
+    let fin = code(&s[n..f]);
+    if !known_final(fin) {
+        return 5;
+    }
+    if !listed(ini, nuc, fin) {
+        if !free {
+            return 6;
+        }
+        if !some_agrees(ini, nuc, fin) {
+            return 6;
+        }
+    }
+    if !tone_fits(fin, tone) {
         return 7;
     }
     0
 }
 
-// Are the letters admitted: checks 1 to 5 pass, and some listed nucleus could still come of them. The tone is not looked at.
+// The verdict on the letters with this tone: the first check that holds, or 0.
+pub fn verdict(s: &[u16], tone: u8) -> u8
+    ensures { λ r. ⌜ r ≡ verdictOf (map letter (now (s .entry))) tone ⌝ }
+{
+    ask(s, tone, false)
+}
+
+// Are the letters admitted: checks 1 to 5 pass, and some listed nucleus could still come of them. The tone is not looked at: an acute fits every final.
 pub fn admitted(s: &[u16]) -> bool
     ensures { λ r. ⌜ r ≡ admittedOf (map letter (now (s .entry))) ⌝ }
 {
-    let w = look(s);
-    let first = w.first;
-    if first != 0 {
-        return false;
-    }
-    some_agrees(w.ini, w.nuc, w.fin)
+    ask(s, ACUTE, true) == 0
 }
 
-// Does a tone fit the letters.
-pub fn fits(s: &[u16], tone: u8) -> bool
-    ensures { λ r. ⌜ r ≡ fitsOf (final (map letter (now (s .entry)))) tone ⌝ }
+// Does a tone go on the letters: they are admitted, and it fits their final.
+pub fn takes_tone(s: &[u16], tone: u8) -> bool
+    ensures { λ r. ⌜ r ≡ toneGoes tone (map letter (now (s .entry))) ⌝ }
 {
-    let parts = parts::apart(s);
-    let n = parts.nucleus;
-    let f = parts.end;
-    tone_fits(code(&s[n..f]), tone)
+    ask(s, tone, true) == 0
 }

@@ -61,8 +61,13 @@ fn takes(ini: u64, nuc: u64, fin: u64) -> bool
 fn stands(ini: u64, nuc: u64) -> bool
     ensures { λ r. ⌜ ((w v : Letters) → Codes ini w → Codes nuc v → r ≡ standsOf w v) ⌝ }
 {
-    (!((nuc == YEE) | (nuc == YEEU)) | ((ini == NONE) | (ini == QU)))
-        & !((ini == QU) & ((NEXT <= nuc) & (nuc % SHAPE == O)))
+    if ini == QU {
+        return !((NEXT <= nuc) & (nuc % SHAPE == O));
+    }
+    if ini == NONE {
+        return true;
+    }
+    !((nuc == YEE) | (nuc == YEEU))
 }
 
 // The nucleus, in letters and shapes, is in the list, is allowed after this initial, and with this final.

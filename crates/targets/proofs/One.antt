@@ -7,6 +7,8 @@ use Rattle.targets.proofs.reshaped as reshaped
 use Rattle.targets.proofs.reshaped.Reads as reshaped-reads
 use Rattle.targets.proofs.last_wanted as last-wanted
 use Rattle.targets.proofs.last_wanted.Reads as last-wanted-reads
+use Rattle.targets.proofs.last_own as last-own
+use Rattle.targets.proofs.last_own.Reads as last-own-reads
 use Rattle.targets.proofs.pair as pair
 use Rattle.targets.proofs.pair.Reads as pair-reads
 use Rattle.targets.proofs.single as single
@@ -17,6 +19,9 @@ reshaped-one κs a r r′ e e′ p p′ = p ∙ sym p′
 
 pub last-wanted-one : (κs : Lfts 1) (a : Args last-wanted.signature κs) (r r′ : Res last-wanted.signature κs) (e e′ : AtExit last-wanted.ended κs) → last-wanted-reads.Post κs a r e → last-wanted-reads.Post κs a r′ e′ → r ≡ r′
 last-wanted-one κs a r r′ e e′ p p′ = p ∙ sym p′
+
+pub last-own-one : (κs : Lfts 1) (a : Args last-own.signature κs) (r r′ : Res last-own.signature κs) (e e′ : AtExit last-own.ended κs) → last-own-reads.Post κs a r e → last-own-reads.Post κs a r′ e′ → r ≡ r′
+last-own-one κs a r r′ e e′ p p′ = p ∙ sym p′
 
 pub pair-one : (κs : Lfts 1) (a : Args pair.signature κs) (r r′ : Res pair.signature κs) (e e′ : AtExit pair.ended κs) → pair-reads.Post κs a r e → pair-reads.Post κs a r′ e′ → r ≡ r′
 pair-one κs a r r′ e e′ p p′ = p ∙ sym p′

@@ -7,7 +7,7 @@ ghost use mathlib.Core.List.{map};
 ghost use Prim.Native.Nat.{_%_};
 ghost use Rattle.rules.specs.TheWord.{letter, number};
 ghost use mathlib.Core.Bool.{false};
-ghost use Rattle.rules.specs.KeyRoles.{shaped, isAEO, isQ};
+ghost use Rattle.rules.specs.KeyRoles.{shaped, own as ownOf, isAEO, isQ};
 ghost use Rattle.targets.specs.Places.{wanted, lastPlace, isPair, pairPlace, isSingle, singlePlace};
 
 fn base(n: u16) -> u8
@@ -29,7 +29,7 @@ fn wants(key: ShapeKey, n: u16) -> bool
 {
     let b = base(n);
     match key {
-        ShapeKey::CircumflexOn(own) => is_aeo(b) & (b == own),
+        ShapeKey::CircumflexOn(own) => is_own(own, b),
         ShapeKey::Circumflex => is_aeo(b),
         ShapeKey::Breve => b == b'a',
         ShapeKey::Horn => false,
@@ -43,6 +43,13 @@ fn is_aeo(b: u8) -> bool
     (b == b'a') | ((b == b'e') | (b == b'o'))
 }
 
+// Each Telex circumflex key has its own letter, a, e or o.
+fn is_own(own: u8, b: u8) -> bool
+    ensures { λ r. ⌜ r ≡ ownOf own b ⌝ }
+{
+    (b == own) & is_aeo(own)
+}
+
 // The last letter with a wanted base.
 pub fn last_wanted(letters: &[u16], key: ShapeKey) -> Place
     ensures { λ r. ⌜ r ≡ lastPlace (wanted key) (map letter (now (letters .entry))) ⌝ }
@@ -52,6 +59,20 @@ pub fn last_wanted(letters: &[u16], key: ShapeKey) -> Place
         i -= 1;
         if wants(key, letters[i]) {
             return Place::At(i);
+        }
+    }
+    Place::Nowhere
+}
+
+// The last letter that a Telex circumflex key wants, its own: the same without asking at each letter which key it is.
+pub fn last_own(letters: &[u16], own: u8) -> Place
+    ensures { λ r. ⌜ r ≡ lastPlace (ownOf own) (map letter (now (letters .entry))) ⌝ }
+{
+    let mut at = letters.len();
+    while 0 < at {
+        at -= 1;
+        if is_own(own, base(letters[at])) {
+            return Place::At(at);
         }
     }
     Place::Nowhere

@@ -1,6 +1,6 @@
 -- The answers by their tests: typing a list, and the three questions on a word.
 use mathlib.Core.Path.{_≡_, refl, sym, ap, subst, _∙_}
-use mathlib.Core.Bool.{Bool, true, false, not, _&&_, _||_}
+use mathlib.Core.Bool.{true, false, not, _&&_}
 use mathlib.Core.List.{List, [], _∷_, map}
 use Prim.Native.Nat.{ℕ, _+_, _-_, _/_, _%_, _≤_, _<_}
 use Prim.Native.Char.{code}
@@ -13,7 +13,7 @@ use Rattle.rules.specs.TheWord.{mostKeys, letter, newWord, holding}
 use Rattle.rules.specs.KeyRoles.{isKey}
 use Rattle.rules.specs.TakingApart.{verdict}
 use Rattle.rules.specs.TonePlace.{tonePlace}
-use Rattle.rules.specs.Decision.{keeps, keepIf, startsWithĐ}
+use Rattle.rules.specs.Decision.{keeps, startsWithĐ}
 use Rattle.rules.specs.Refusals.{all, isMode, allowedBefore, outOfRange, refusal}
 use Rattle.rules.specs.WhatComesBack.{typed, typeAll, placeAnswer, verdictAnswer, decisionAnswer}
 use Rattle.rules.specs.declared.Word.{Word}
@@ -26,6 +26,7 @@ use Rattle.rules.specs.declared.DecisionAnswer.the-variants.{Decided}
 use Rattle.rules.specs.declared.DecisionAnswer.the-variants.{Refused as DecisionRefused}
 use Rattle.rules.proofs.Tests.{is-true}
 use Rattle.word.specs.Refusing.{refusedOf}
+use Rattle.word.specs.Deciding.{decidedBy}
 
 -- the first letter of a slice of numbers
 pub no-first : (s : List ℕ) → length s ≡ 0 → false ≡ startsWithĐ (map letter s)
@@ -82,10 +83,6 @@ module _ (w : Word) where
   unfolding decisionAnswer refusal
   decision-refused e = simp e
 
-  -- the four reasons to keep, as they are asked
-  abbrev pub reasons : Bool → ℕ → Bool
-  reasons đ v = (eqb (w .acted) 0 && eqb (w .undone) 0) || (w .closed || (đ || eqb v 0))
-
-  pub decided : outOfRange w ≡ false → (b : Bool) → reasons (startsWithĐ (part (w .letters) (w .count))) (verdict (part (w .letters) (w .count)) (w .tone)) ≡ b → decisionAnswer w ≡ Decided (keepIf b)
+  pub decided : outOfRange w ≡ false → decisionAnswer w ≡ Decided (decidedBy (eqb (w .acted) 0 && eqb (w .undone) 0) (w .closed) (part (w .letters) (w .count)) (verdict (part (w .letters) (w .count)) (w .tone)))
   unfolding decisionAnswer refusal keeps
-  decided e b k = simp e (ap (λ (c : Bool). Decided (keepIf c)) (ap (λ (v : Letters). reasons (startsWithĐ v) (verdict v (w .tone))) (sym (is-front (w .letters) (w .count))) ∙ k))
+  decided e = simp e (ap (λ (v : Letters). Decided (decidedBy (eqb (w .acted) 0 && eqb (w .undone) 0) (w .closed) v (verdict v (w .tone)))) (sym (is-front (w .letters) (w .count))))

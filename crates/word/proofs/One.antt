@@ -11,6 +11,8 @@ use Rattle.word.proofs.place as place
 use Rattle.word.proofs.place.Reads as place-reads
 use Rattle.word.proofs.verdict as verdict
 use Rattle.word.proofs.verdict.Reads as verdict-reads
+use Rattle.word.proofs.decided as decided
+use Rattle.word.proofs.decided.Reads as decided-reads
 use Rattle.word.proofs.decision as decision
 use Rattle.word.proofs.decision.Reads as decision-reads
 
@@ -28,3 +30,6 @@ verdict-one κs a r r′ e e′ p p′ = p ∙ sym p′
 
 pub decision-one : (κs : Lfts 0) (a : Args decision.signature κs) (r r′ : Res decision.signature κs) (e e′ : AtExit decision.ended κs) → decision-reads.Post κs a r e → decision-reads.Post κs a r′ e′ → r ≡ r′
 decision-one κs a r r′ e e′ p p′ = p ∙ sym p′
+
+pub decided-one : (κs : Lfts 1) (a : Args decided.signature κs) (r r′ : Res decided.signature κs) (e e′ : AtExit decided.ended κs) → decided-reads.Post κs a r e → decided-reads.Post κs a r′ e′ → r ≡ r′
+decided-one κs a r r′ e e′ p p′ = p ∙ sym p′

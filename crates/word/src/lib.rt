@@ -18,6 +18,7 @@ ghost use mathlib.Core.List.{map};
 ghost use Rattle.rules.specs.TheWord.{letter, newWord, holding};
 ghost use Rattle.rules.specs.Decision.{startsWithĐ};
 ghost use Rattle.word.specs.Refusing.{refusedOf};
+ghost use Rattle.word.specs.Deciding.{decidedBy};
 ghost use Rattle.rules.specs.KeyRoles.{isKey};
 ghost use Rattle.rules.specs.Refusals.{all, isMode as isModeOf, allowedBefore};
 ghost use Rattle.rules.specs.WhatComesBack.{start as startOf, typed, typeAll as typeAllOf, placeAnswer, verdictAnswer, decisionAnswer};
@@ -61,20 +62,34 @@ fn allowed_before(mode: u8, keys: &[u8]) -> usize
     i
 }
 
-// Allowed keys, few enough, typed one after the other into a new word.
+// Allowed keys, few enough, typed one after the other into a new word, whose record is put together once, at the end.
 fn typed_all(mode: u8, keys: &[u8]) -> Word
     requires { ⌜ T (isModeOf mode) × (length (now keys) ≤ 32) × T (all (isKey mode) (now keys)) ⌝ }
     ensures { λ r. ⌜ r ≡ holding (newWord mode) (typed mode (now (keys .entry))) ⌝ }
 {
     let begun = start(mode);
-    let mut w = begun.word;
+    let w = begun.word;
+    let mut letters = w.letters;
+    let mut kept = w.keys;
+    let mut n = records::numbers_of(w);
     let mut i = 0;
     while i < keys.len() {
-        let s = step::step(w, keys[i]);
-        w = s.word;
+        let done = step::step_in(&mut letters, &mut kept, mode, n, keys[i]);
+        n = done.numbers;
         i += 1;
     }
-    w
+    Word {
+        mode: mode,
+        letters: letters,
+        count: n.count,
+        tone: n.tone,
+        closed: n.closed,
+        keys: kept,
+        typed: n.typed,
+        acted: n.acted,
+        undone: n.undone,
+        appended: n.appended,
+    }
 }
 
 fn refused(number: u8, value: usize) -> TypeAll
@@ -140,7 +155,7 @@ pub fn verdict(w: Word) -> VerdictAnswer
     VerdictAnswer::Judged(syllable::verdict(&letters[0..count], w.tone))
 }
 
-// Keep if no key acted or undid, or the word is closed, or its first letter is đ, or the verdict is 0; otherwise restore. Refusals: 8.
+// Keep or restore. Refusals: 8.
 pub fn decision(w: Word) -> DecisionAnswer
     ensures { λ r. ⌜ r ≡ decisionAnswer w ⌝ }
 {
@@ -154,12 +169,17 @@ pub fn decision(w: Word) -> DecisionAnswer
     let count = w.count as usize;
     let word = &letters[0..count];
     let untouched = (w.acted == 0) & (w.undone == 0);
-    let kept = untouched
-        | (w.closed | (starts_with_d_stroke(word) | (syllable::verdict(word, w.tone) == 0)));
-    if kept {
-        return DecisionAnswer::Decided(Decision::Keep);
+    DecisionAnswer::Decided(decided(word, untouched, w.closed, syllable::verdict(word, w.tone)))
+}
+
+// Keep if no key acted or undid, or the word is closed, or its first letter is đ, or the verdict is 0; otherwise restore.
+pub fn decided(letters: &[u16], untouched: bool, closed: bool, verdict: u8) -> Decision
+    ensures { λ r. ⌜ r ≡ decidedBy untouched closed (map letter (now (letters .entry))) verdict ⌝ }
+{
+    if untouched | (closed | (starts_with_d_stroke(letters) | (verdict == 0))) {
+        return Decision::Keep;
     }
-    DecisionAnswer::Decided(Decision::Restore)
+    Decision::Restore
 }
 
 fn starts_with_d_stroke(letters: &[u16]) -> bool

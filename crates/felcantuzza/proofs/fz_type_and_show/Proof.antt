@@ -1,10 +1,21 @@
--- `felcantuzza::fz_type_and_show` meets its contract: no record, typed and shown, or refused.
-use mathlib.Core.Path.{sym, ap, _∙_}
+-- `felcantuzza::fz_type_and_show` meets its contract: into a short output by its own function; else no record, typed, stored and shown, or refused.
+use mathlib.Core.Path.{_≡_, refl, sym, ap, subst, _∙_}
+use mathlib.Core.List.{List}
+use native.Mathlib.Omega.{arith}
+use lib.ListN.{length}
 use borrow.Author.Needs.{needs}
 use borrow.Author.Tests.{not-true, not-false}
+use Rattle.rules.specs.TheWord.{mostKeys}
+use Rattle.rules.proofs.StaysInRange.{Whole}
+use Rattle.layout.specs.Places.{written}
+use Rattle.layout.specs.declared.Reading.{Reading}
+use Rattle.layout.proofs.RoundTrips.{read-whole}
+use Rattle.press.specs.StepAndShow.{stepAndShow}
 use Rattle.press.specs.declared.StepShown.{StepShown}
+use Rattle.press.proofs.Shows.{refused-so}
 use Rattle.felcantuzza.specs.Calls as Calls
-use Rattle.felcantuzza.proofs.Tells.{tells, refuses, changed, unchanged, none-typed-shown, typed-shown, typed-shown-word, typed-shown-output, refused-both}
+use Rattle.felcantuzza.proofs.Tells.{tells, refuses, changed, unchanged, none-typed-shown, typed-shown, typed-shown-word, typed-shown-output}
+use Rattle.felcantuzza.proofs.Rooms.{within, with-room}
 use Rattle.felcantuzza.proofs.fz_type_and_show.Statement.{statement}
 use Rattle.felcantuzza.proofs.fz_type_and_show.Tie as tie
 
@@ -13,53 +24,72 @@ fz-type-and-show-spec =
     tie.close
     (tie.spec
     (λ c κs. search needs)
+    (λ c. search needs)
+    (λ c. search needs)
+    (λ c. search needs)
+    (λ c κs. search needs)
     (λ c κs. search needs)
     (λ c. search needs)
     (λ c.
     let no = c .before .before in
     let read = no .before .before in
-    let args = read .before .before .before .before .args in
+    let args = read .before .before .before .before .before .args in
     let said = Calls.typeAndShow (args .lent .now) (args .key) (args .out .now) in
-    let e = none-typed-shown (args .lent .now) (read .read .result) (read .read .ensures) (args .key) (args .out .now) (not-true _ (no .if1 .taken)) in
+    let e = none-typed-shown (args .lent .now) (read .read .result) (read .read .ensures) (args .key) (args .out .now) (not-true _ (no .if2 .taken)) in
     let t = refuses Calls.single said 8 0 e (c .no-record .ensures .0) (c .no-record .ensures .1) in
     (t .0, t .1, unchanged said _ (args .lent .now) 8 0 e, unchanged said _ (args .out .now) 8 0 e))
     (λ c κs. search needs)
     (λ c. search needs)
     (λ c κs. search needs)
+    (λ c. search needs)
+    (λ c. search needs)
+    (λ c. search needs)
+    (λ c.
+    let told = c .before .before .before .before .before .before .before .before .before in
+    let done = told .before .before in
+    let read = done .before .before .before .before in
+    let start = read .before .before .before .before .before in
+    let args = start .args in
+    let w = read .read .result .word in
+    let whole : Whole w = subst (λ (x : Reading). Whole (x .word)) (sym (read .read .ensures)) (read-whole (args .lent .now)) in
+    within w (args .key) (args .out .now) (done .step .result) (done .step .ensures) whole (told .answer .given .0 .0) (told .answer .given .1))
+    (λ c κs. search needs)
     (λ c κs. search needs)
     (λ c. search needs)
     (λ c κs. search needs)
     (λ c. search needs)
     (λ c. search needs)
     (λ c.
-    let stored = c .before .before .before .before in
-    let known = stored .before .before .before .before in
-    let both = known .before .before .before .before in
-    let yes = both .before .before .before in
-    let read = yes .before .before in
-    let args = read .before .before .before .before .args in
+    let told = c .before .before .before .before .before .before .before .before .before .before .before .before .before .before .before .before in
+    let done = told .before .before in
+    let read = done .before .before .before .before in
+    let start = read .before .before .before .before .before in
+    let args = start .args in
+    let w = read .read .result .word in
+    let whole : Whole w = subst (λ (x : Reading). Whole (x .word)) (sym (read .read .ensures)) (read-whole (args .lent .now)) in
+    let filled = c .before .before .before .before in
+    let stored = filled .before .before .before .before .before .before .before .before in
+    let both = with-room w (args .key) (args .out .now) (done .step .result) (done .step .ensures) whole (told .answer .given .0 .0) (told .answer .given .1)
+    (filled .in-room .result) _ (read .before .before .if1 .left) (filled .in-room .ensures .0) (filled .in-room .ensures .1) in
     let said = Calls.typeAndShow (args .lent .now) (args .key) (args .out .now) in
-    let e = typed-shown (args .lent .now) (read .read .result) (read .read .ensures) (args .key) (args .out .now) (both .press .result) (both .press .ensures .0) (not-false _ (yes .if1 .left)) _ (known .answer .given .1) in
+    let all = stepAndShow w (args .key) (args .out .now) .result in
+    let e = typed-shown (args .lent .now) (read .read .result) (read .read .ensures) (args .key) (args .out .now) all refl (not-false _ (done .before .before .if2 .left)) _ (sym (ap (λ (x : StepShown). x .answer) (both .0))) in
     let t = tells Calls.single said _ e (c .answered .ensures .0) (c .answered .ensures .1) in (
       t .0,
       t .1,
-      stored .write .ensures .1 ∙ typed-shown-word (args .lent .now) (read .read .result) (read .read .ensures) (args .key) (args .out .now) (both .press .result) (both .press .ensures .0) ∙ changed said _ (args .lent .now) _ e,
-      both .press .ensures .1 ∙ typed-shown-output (args .lent .now) (read .read .result) (read .read .ensures) (args .key) (args .out .now) ∙ changed said _ (args .out .now) _ e,
+      stored .write .ensures .1 ∙ ap (λ (x : StepShown). written (x .word) (args .lent .now)) (both .0) ∙ typed-shown-word (args .lent .now) (read .read .result) (read .read .ensures) (args .key) (args .out .now) all refl ∙ changed said _ (args .lent .now) _ e,
+      both .1 ∙ typed-shown-output (args .lent .now) (read .read .result) (read .read .ensures) (args .key) (args .out .now) ∙ changed said _ (args .out .now) _ e,
     ))
     (λ c. search needs)
-    (λ c. search needs)
     (λ c.
-    let known = c .before .before .before in
-    let both = known .before .before .before .before in
-    let yes = both .before .before .before in
-    let read = yes .before .before in
-    let args = read .before .before .before .before .args in
+    let told = c .before .before .before in
+    let done = told .before .before in
+    let read = done .before .before .before .before in
+    let args = read .before .before .before .before .before .args in
+    let w = read .read .result .word in
+    let no = refused-so w (args .key) (args .out .now) (done .step .result) (done .step .ensures) (told .answer2 .given .0 .0) (told .answer2 .given .1) in
     let said = Calls.typeAndShow (args .lent .now) (args .key) (args .out .now) in
-    let e = typed-shown (args .lent .now) (read .read .result) (read .read .ensures) (args .key) (args .out .now) (both .press .result) (both .press .ensures .0) (not-false _ (yes .if1 .left)) _ (known .answer2 .given .1) in
+    let all = stepAndShow w (args .key) (args .out .now) .result in
+    let e = typed-shown (args .lent .now) (read .read .result) (read .read .ensures) (args .key) (args .out .now) all refl (not-false _ (done .before .before .if2 .left)) _ (sym (ap (λ (x : StepShown). x .answer) (no .0))) in
     let t = refuses Calls.single said _ _ e (c .refused .ensures .0) (c .refused .ensures .1) in
-    let no = sym (ap (λ (x : StepShown). x .answer) (both .press .ensures .0)) ∙ known .answer2 .given .1 in (
-      t .0,
-      t .1,
-      unchanged said _ (args .lent .now) _ _ e,
-      both .press .ensures .1 ∙ refused-both (read .read .result .word) (args .key) (args .out .now) _ no ∙ unchanged said _ (args .out .now) _ _ e,
-    )))
+    (t .0, t .1, unchanged said _ (args .lent .now) _ _ e, unchanged said _ (args .out .now) _ _ e)))

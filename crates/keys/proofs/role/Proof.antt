@@ -1,7 +1,5 @@
 -- `keys::role` meets its contract: the mode picks the table.
-use mathlib.Core.Path.{_∙_, ap}
 use borrow.Author.Needs.{needs}
-use Rattle.rules.specs.KeyRoles.{roleIn, telexRoles, vniRoles}
 use Rattle.keys.proofs.Roles.{no-mode}
 use Rattle.keys.proofs.role.Statement.{statement}
 use Rattle.keys.proofs.role.Tie as tie
@@ -11,8 +9,6 @@ role-spec =
     tie.close (tie.spec
     (λ c κs. search needs)
     (λ c κs. search needs)
-    (λ c κs. search needs)
-    (λ c κs. search needs)
-    (λ c. rw (c .before .before .match .keys1) (c .telex-role .ensures ∙ ap (roleIn telexRoles) (c .before .lower .ensures)))
-    (λ c. rw (c .before .before .match .keys2) (c .vni-role .ensures ∙ ap (roleIn vniRoles) (c .before .lower2 .ensures)))
+    (λ c. rw (c .before .match .keys1) (c .telex-role .ensures))
+    (λ c. rw (c .before .match .keys2) (c .vni-role .ensures))
     (λ c. no-mode (c .before .args .mode) (c .before .args .key) (c .match .rest .0 .1) (c .match .rest .1)))

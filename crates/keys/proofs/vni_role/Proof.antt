@@ -1,7 +1,7 @@
 -- `keys::vni_role` meets its contract: each arm is its row of the table, and the last is for the keys of no row.
 use Rattle.rules.specs.KeyRoles.{vniRoles}
 use Rattle.keys.proofs.Arms.{none-of}
-use Rattle.keys.proofs.Roles.{keys, no-role}
+use Rattle.keys.proofs.Roles.{keys, in-none}
 use Rattle.keys.proofs.vni_role.Statement.{statement}
 use Rattle.keys.proofs.vni_role.Tie as tie
 
@@ -18,4 +18,4 @@ vni-role-spec =
     (λ c. rw (c .match .keys8))
     (λ c. rw (c .match .keys9))
     (λ c. rw (c .match .keys10))
-    (λ c. no-role (c .before .args .key) vniRoles (none-of (Unit {0}) (c .before .args .key) (keys vniRoles) (c .match .rest))))
+    (λ c. let key = c .before .args .key in in-none key vniRoles tt (none-of (Unit {0}) key (keys vniRoles) (c .match .rest))))

@@ -9,38 +9,37 @@ use Rattle.layout.proofs.put_letters.Statement.{statement}
 use Rattle.layout.proofs.put_letters.Tie as tie
 
 abbrev Inv-loop : tie.InvT-loop
-Inv-loop out₀ letters i₀ out i = WrittenSoFar letters i out
+Inv-loop letters out₀ i₀ out i = WrittenSoFar letters i out
 
 abbrev μ-loop : tie.MeasureT-loop
-μ-loop out₀ letters i₀ out i = 32 - i
+μ-loop letters out₀ i₀ out i = 32 - i
 
 pub put-letters-spec : {M : Type 1} → statement M
 put-letters-spec =
     tie.close
     (tie.spec Inv-loop μ-loop
-    (λ c. record { passed = omega arith; long = c .before .pre; front = refl })
+    (λ c. record { passed = omega arith; long = c .before .before .pre .1; front = refl })
     (λ c. omega (arith, c .loop-test .taken))
-    (λ c. c .loop-test .taken)
-    (λ c κs. search needs)
-    (λ c. omega (arith, c .before .loop-test .taken))
-    (λ c. omega (arith, c .before .loop-test .taken, c .before .before .loop .inv .long))
-    (λ c. omega (arith, c .before .loop-test .taken))
-    (λ c. c .before .loop-test .taken)
+    (λ c. omega (arith, c .before .loop-test .taken, c .before .before .before .before .before .pre .0))
     (λ c κs. search needs)
     (λ c. omega (arith, c .before .before .loop-test .taken))
+    (λ c. omega (arith, c .before .before .loop-test .taken, c .before .before .before .loop .inv .long))
     (λ c. omega (arith, c .before .before .loop-test .taken))
-    (λ c. simp length-set (omega (arith, c .before .before .loop-test .taken, c .before .before .before .loop .inv .long)))
-    (λ c. omega (arith, c .before .before .loop-test .taken))
-    (λ c. omega (arith, c .before .before .loop-test .taken))
+    (λ c. omega (arith, c .before .before .before .loop-test .taken, c .before .before .before .before .before .before .before .pre .0))
+    (λ c κs. search needs)
+    (λ c. omega (arith, c .before .before .before .before .loop-test .taken))
+    (λ c. omega (arith, c .before .before .before .before .loop-test .taken))
+    (λ c. simp length-set (omega (arith, c .before .before .before .before .loop-test .taken, c .before .before .before .before .before .loop .inv .long)))
+    (λ c. omega (arith, c .before .before .before .before .loop-test .taken))
+    (λ c. omega (arith, c .before .before .before .before .loop-test .taken))
     (λ c.
-    let turn = c .before .before in
+    let low = c .before .before in
+    let turn = low .before .before in
     let loop = turn .before in
-    let letters = loop .before .before .args .t1 in
-    let places : length letters ≡ 32 = search needs in
-    write-on letters places (loop .loop .i) (c .before .low .result) (c .high .result) (loop .loop .out) (loop .loop .inv) (turn .loop-test .taken) (c .before .low .ensures) (c .high .ensures))
-    (λ c. c .before .loop .inv .long ∙ sym (c .before .before .before .pre))
+    let start = loop .before .before .before in
+    write-on (start .args .letters .now) (start .pre .0) (loop .loop .i) (low .low .result) (c .high .result) (loop .loop .out) (loop .loop .inv) (turn .loop-test .taken) (low .low .ensures) (c .high .ensures))
+    (λ c. c .before .loop .inv .long ∙ sym (c .before .before .before .before .pre .1))
     (λ c.
     let loop = c .before in
-    let letters = loop .before .before .args .t1 in
-    let places : length letters ≡ 32 = search needs in
-    all-written letters places (loop .loop .i) (loop .loop .out) (loop .loop .inv) (c .loop-test .left)))
+    let start = loop .before .before .before in
+    all-written (start .args .letters .now) (start .pre .0) (loop .loop .i) (loop .loop .out) (loop .loop .inv) (c .loop-test .left)))

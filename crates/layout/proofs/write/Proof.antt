@@ -32,19 +32,20 @@ write-spec =
     simp (length-take, length-drop, length-set) (omega (arith, keys, long .if1 .left)))
     (λ c. search needs)
     (λ c. search needs)
+    (λ c. search needs)
     (λ c.
-    let copy = c .before .before .before in
+    let copy = c .before .before .before .before in
     let long = copy .before .before .before .before .before in
     let start = long .before .before in
-    omega (arith, c .before .before .buffer .given .1, length-headed (start .args .w) (start .args .buffer .now), long .if1 .left))
+    omega (arith, c .before .before .before .buffer .given .1, length-headed (start .args .w) (start .args .buffer .now), long .if1 .left))
     (λ c κs. search needs)
     (λ c.
-    let keyed = c .before .before .before .before .before .before in
+    let keyed = c .before .before .before .before .before .before .before in
     let args = keyed .before .before .before .before .before .before .before .before .args in
     c .before .buffer2 .given .1 ∙ keyed .buffer .given .1 ∙ length-headed (args .w) (args .buffer .now))
     (λ c.
     let put = c .before .before in
-    let copy = put .before .before .before .before .before in
+    let copy = put .before .before .before .before .before .before in
     let long = copy .before .before .before .before .before in
     let start = long .before .before in
     let w = start .args .w in

@@ -1,6 +1,6 @@
 -- `parts::joins` meets its contract.
 use native.Mathlib.Omega.{arith}
-use Rattle.parts.proofs.Glides.{not-one, no-run, joined-is}
+use Rattle.parts.proofs.Glides.{not-one, no-run, after-q, not-q}
 use Rattle.parts.proofs.joins.Statement.{statement}
 use Rattle.parts.proofs.joins.Tie as tie
 
@@ -13,6 +13,10 @@ joins-spec =
     (λ c. omega arith)
     (λ c. omega arith)
     (λ c. omega arith)
+    (λ c. let t = c .before in let e = t .before .before in let args = e .before .before .args in
+    after-q (args .before .now) (args .run .now) (e .before .if1 .left) (e .if2 .left) (t .if3 .taken))
     (λ c. omega arith)
     (λ c. omega arith)
-    (λ c. joined-is (c .before .before .before .before .args .before .now) (c .before .before .before .before .args .run .now) (c .before .before .before .if1 .left) (c .before .before .if2 .left)))
+    (λ c. omega arith)
+    (λ c. let t = c .before in let e = t .before .before in let args = e .before .before .args in
+    not-q (args .before .now) (args .run .now) (e .before .if1 .left) (e .if2 .left) (t .if3 .left)))

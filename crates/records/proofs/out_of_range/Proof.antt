@@ -1,59 +1,61 @@
 -- `records::out_of_range` meets its contract: each answer is the condition that the test before it settles.
 use mathlib.Core.Path.{_≡_, sym, ap, _∙_}
 use mathlib.Core.Bool.{Bool}
-use mathlib.Core.List.{List}
-use Prim.Native.Nat.{ℕ, _-_}
 use native.Mathlib.Omega.{arith}
-use lib.ListN.{length, take, drop}
-use borrow.Author.Needs.{needs}
+use borrow.Author.Needs.{needs, length-unmapped}
 use borrow.Author.Tests.{not-true, not-false}
-use Rattle.rules.specs.KeyRoles.{isKey}
-use Rattle.rules.specs.Refusals.{all}
-use Rattle.letters.specs.Writing.{isLetter}
-use Rattle.records.proofs.Conditions.{range-is, typed-small, count-small}
+use Rattle.rules.specs.TheWord.{mostKeys}
+use Rattle.rules.specs.declared.Word.{Word}
+use Rattle.records.specs.declared.Numbers.{Numbers}
+use Rattle.records.specs.Numbers.{numbersOf, numbersWrong}
+use Rattle.records.proofs.Conditions.{typed-small, count-small, by-numbers, by-keys, by-letters}
 use Rattle.records.proofs.out_of_range.Statement.{statement}
 use Rattle.records.proofs.out_of_range.Tie as tie
 
--- the part that is asked about, from 0 on, is the front
-front : (f : ℕ → Bool) (l : List ℕ) (n : ℕ) {r : Bool} → r ≡ all f (take (n - 0) (drop 0 l)) → all f (take n l) ≡ r
-front f l n e = let z : n ≡ n - 0 = omega arith in ap (λ (m : ℕ). all f (take m l)) z ∙ sym e
+-- what is asked of the numbers is asked of the record's
+asked : (w : Word) {n : Numbers} {r b : Bool} → n ≡ numbersOf w → r ≡ numbersWrong (w .mode) n → r ≡ b → numbersWrong (w .mode) (numbersOf w) ≡ b
+asked w e d t = sym (ap (numbersWrong (w .mode)) e) ∙ sym d ∙ t
 
 pub out-of-range-spec : {M : Type 1} → statement M
 out-of-range-spec =
     tie.close
     (tie.spec
     (λ c κs. search needs)
-    (λ c. rw (range-is (c .before .before .args .w), sym (c .before .numbers-wrong .ensures) ∙ c .if1 .taken))
+    (λ c κs. search needs)
+    (λ c.
+    let told = c .before .before in
+    let w = told .before .args .w in
+    sym (by-numbers w (asked w (told .numbers-of .ensures) (c .before .numbers-wrong .ensures) (c .if1 .taken))))
     (λ c. search needs)
     (λ c. search needs)
     (λ c. search needs)
     (λ c.
     let test = c .before .before .before in
-    let w = test .before .before .args .w in
-    let e : length (w .keys) ≡ 32 = search needs in
-    omega (arith, typed-small w (sym (test .before .numbers-wrong .ensures) ∙ test .if1 .left)))
+    let told = test .before .before in
+    let at = told .before in
+    let w = at .args .w in
+    let e = length-unmapped _ (w .keys) mostKeys (at .good .0 .1 .1 .1 .1 .1 .1 .1 .0 .1 .0 .1) in
+    omega (arith, typed-small (w .mode) (numbersOf w) (asked w (told .numbers-of .ensures) (test .before .numbers-wrong .ensures) (test .if1 .left))))
     (λ c κs. search needs)
     (λ c.
     let test = c .before .before .before .before .before .before in
-    let w = test .before .before .args .w in
-    rw (range-is w, sym (test .before .numbers-wrong .ensures) ∙ test .if1 .left, front (isKey (w .mode)) (w .keys) (w .typed) (c .before .keys-allowed .ensures), not-true (c .before .keys-allowed .result) (c .if2 .taken)))
+    let told = test .before .before in
+    let w = told .before .args .w in
+    sym (by-keys w (asked w (told .numbers-of .ensures) (test .before .numbers-wrong .ensures) (test .if1 .left)) (c .before .keys-allowed .ensures) (not-true (c .before .keys-allowed .result) (c .if2 .taken))))
     (λ c. search needs)
     (λ c. search needs)
     (λ c. search needs)
     (λ c.
     let test = c .before .before .before .before .before .before .before .before .before in
-    let w = test .before .before .args .w in
-    let e : length (w .letters) ≡ 32 = search needs in
-    omega (arith, count-small w (sym (test .before .numbers-wrong .ensures) ∙ test .if1 .left)))
+    let told = test .before .before in
+    let at = told .before in
+    let w = at .args .w in
+    let e = length-unmapped _ (w .letters) mostKeys (at .good .0 .1 .1 .1 .0 .1 .0 .1) in
+    omega (arith, count-small (w .mode) (numbersOf w) (asked w (told .numbers-of .ensures) (test .before .numbers-wrong .ensures) (test .if1 .left))))
     (λ c κs. search needs)
     (λ c.
     let keys = c .before .before .before .before .before in
     let test = keys .before .before .before .before .before .before in
-    let w = test .before .before .args .w in
-    rw (
-      range-is w,
-      sym (test .before .numbers-wrong .ensures) ∙ test .if1 .left,
-      front (isKey (w .mode)) (w .keys) (w .typed) (keys .before .keys-allowed .ensures),
-      not-false (keys .before .keys-allowed .result) (keys .if2 .left),
-      front (isLetter (w .mode)) (w .letters) (w .count) (c .letters-allowed .ensures),
-    )))
+    let told = test .before .before in
+    let w = told .before .args .w in
+    sym (by-letters w (asked w (told .numbers-of .ensures) (test .before .numbers-wrong .ensures) (test .if1 .left)) (keys .before .keys-allowed .ensures) (not-false (keys .before .keys-allowed .result) (keys .if2 .left)) (c .letters-allowed .ensures))))

@@ -17,35 +17,30 @@ text-spec =
     let e = too-many (args .letters .now) (args .tone) (args .out .now) (c .if1 .taken) in
     (sym (ap (λ (x : Written). x .answer) e), sym (ap (λ (x : Written). x .output) e)))
     (λ c κs. search needs)
-    (λ c κs. search needs)
     (λ c. search needs)
     (λ c.
-    let filled = c .before .before in
-    let placed = filled .before .before .before in
-    let args = placed .before .before .before .before .args in
-    let e =
-    made-there (args .letters .now) (args .tone) (args .out .now) (placed .before .if1 .left) (placed .tone-place .result) (filled .fill .result) (filled .fill .ensures .0) _ (filled .before .before .if2 .taken)
-    (placed .tone-place .ensures) (filled .fill .ensures .1) in
+    let made = c .before .before in
+    let room = made .before .before in
+    let args = room .before .before .before .before .args in
+    let e = made-there (args .letters .now) (args .tone) (args .out .now) (room .before .if1 .left) (made .in-room .result) (room .if2 .taken) (made .in-room .ensures .0) _ (made .in-room .ensures .1) in
     (sym (ap (λ (x : Written). x .answer) e), sym (ap (λ (x : Written). x .output) e)))
     (λ c. search needs)
     (λ c κs. search needs)
     (λ c. search needs)
     (λ c. search needs)
     (λ c.
-    let filled = c .before .before in
-    let placed = filled .before .before .before in
-    let args = placed .before .before .before .before .args in
-    let most = at-most-96 (args .letters .now) (args .tone) (args .out .now) (placed .before .if1 .left) (placed .tone-place .result) (filled .fill2 .result) (filled .fill2 .ensures .0) in
-    let long : length (filled .fill2 .last .0) ≡ 96 = search needs in
+    let made = c .before .before in
+    let few = made .before .before .before in
+    let args = few .before .before .before .args in
+    let most = at-most-96 (args .letters .now) (args .tone) _ (few .if1 .left) (made .in-room2 .result) (omega arith) (made .in-room2 .ensures .0) in
+    let long : length (made .in-room2 .last .1 .1 .0) ≡ 96 = search needs in
     omega (arith, most, long))
     (λ c κs. search needs)
     (λ c. search needs)
     (λ c.
     let wrote = c .before .before in
-    let filled = wrote .before .before .before .before .before in
-    let placed = filled .before .before .before in
-    let args = placed .before .before .before .before .args in
-    let same =
-    put-so (args .letters .now) (args .tone) (args .out .now) (placed .before .if1 .left) (placed .tone-place .result) (filled .fill2 .result) (filled .fill2 .ensures .0) (filled .fill2 .last .0) _
-    (placed .tone-place .ensures) (filled .fill2 .ensures .1) in
+    let made = wrote .before .before .before .before .before in
+    let few = made .before .before .before in
+    let args = few .before .before .before .args in
+    let same = put-so (args .letters .now) (args .tone) (args .out .now) _ (made .in-room2 .last .1 .1 .0) (made .in-room2 .result) (few .if1 .left) (omega arith) (made .in-room2 .ensures .0) (made .in-room2 .ensures .1) in
     (wrote .write .ensures .0 ∙ ap (λ (x : Written). x .answer) same, wrote .write .ensures .1 ∙ ap (λ (x : Written). x .output) same)))

@@ -1,11 +1,9 @@
--- `step::step` meets its contract: each answer is the row of its test, or the key typed.
-use mathlib.Core.Path.{sym, subst, _∙_}
-use mathlib.Core.Bool.{Bool, not}
-use lib.Dec.{T}
+-- `step::step` meets its contract: the arrays are lent, and the record is put together of what is left in them.
+use mathlib.Core.Path.{ap, _∙_}
 use borrow.Author.Needs.{needs}
-use borrow.Author.Tests.{not-true, not-false}
-use Rattle.rules.proofs.Range.{in-range}
-use Rattle.step.proofs.Steps.{out-of-range, full, no-key, accepted, ready}
+use Rattle.rules.specs.WhatComesBack.{step}
+use Rattle.records.specs.declared.Numbers.{Numbers}
+use Rattle.step.specs.LentWord.{wordIn}
 use Rattle.step.proofs.step.Statement.{statement}
 use Rattle.step.proofs.step.Tie as tie
 
@@ -16,31 +14,6 @@ step-spec =
     (λ c κs. search needs)
     (λ c κs. search needs)
     (λ c.
-    let args = c .before .before .before .args in
-    c .refused .ensures ∙ sym (out-of-range (args .w) (args .key) (sym (c .before .before .out-of-range .ensures) ∙ c .before .if1 .taken)))
-    (λ c. search needs)
-    (λ c κs. search needs)
-    (λ c.
-    let no = c .before .before .before in
-    let args = no .before .before .args in
-    c .refused2 .ensures ∙ sym (full (args .w) (args .key) (sym (no .before .out-of-range .ensures) ∙ no .if1 .left) (c .before .if2 .taken)))
-    (λ c κs. search needs)
-    (λ c κs. search needs)
-    (λ c.
-    let key = c .before .before in
-    let no = key .before .before .before in
-    let args = no .before .before .args in
-    c .refused3 .ensures ∙
-    sym (no-key (args .w) (args .key) (sym (no .before .out-of-range .ensures) ∙ no .if1 .left) (key .before .if2 .left) (sym (key .is-key .ensures) ∙ not-true (key .is-key .result) (c .before .if3 .taken))))
-    (λ c κs.
-    let key = c .before in
-    let no = key .before .before .before in
-    let args = no .before .before .args in
-    let r = in-range (args .w) (subst (λ (b : Bool). T (not b)) (sym (sym (no .before .out-of-range .ensures) ∙ no .if1 .left)) tt) in
-    (ready (args .w) r (key .before .if2 .left), r .acted, r .undone, r .appended))
-    (λ c.
-    let key = c .before .before in
-    let no = key .before .before .before in
-    let args = no .before .before .args in
-    c .typed .ensures ∙
-    sym (accepted (args .w) (args .key) (sym (no .before .out-of-range .ensures) ∙ no .if1 .left) (key .before .if2 .left) (sym (key .is-key .ensures) ∙ not-false (key .is-key .result) (c .before .if3 .left)))))
+    let told = c .before in
+    let args = told .before .before .before .before .before .before .args in
+    told .step-in .ensures ∙ ap (λ (n : Numbers). step (wordIn (args .w .mode) (args .w .letters) (args .w .keys) n) (args .key)) (told .before .numbers-of .ensures)))

@@ -66,7 +66,7 @@ tone-key-spec =
     let t = role .role .given .0 .0 in
     let s = stateIn (at .args .letters .now) (at .args .rest) in
     let k = letterOfKey (at .args .key) in
-    as-ruled (ap (λ (r : ToneKey). toneDoes r s k) (role .role .given .1) ∙ tone-not-there s k t true (no .if2 .left) (sym (goes .tone-goes .ensures ∙ sym (ap (toneGoes t) (is-front (at .args .letters .now) (at .args .rest .count)))) ∙ c .before .if3 .taken)) (as-acted (Tone t) (tones (at .args .letters .now) (at .args .rest) (at .pre .given) t (c .with-tone3 .ensures))))
+    as-ruled (ap (λ (r : ToneKey). toneDoes r s k) (role .role .given .1) ∙ tone-not-there s k t true (no .if2 .left) (sym (goes .takes-tone .ensures ∙ sym (ap (toneGoes t) (is-front (at .args .letters .now) (at .args .rest .count)))) ∙ c .before .if3 .taken)) (as-acted (Tone t) (tones (at .args .letters .now) (at .args .rest) (at .pre .given) t (c .with-tone3 .ensures))))
     (λ c κs. search needs)
     (λ c. search needs)
     (λ c.
@@ -78,4 +78,4 @@ tone-key-spec =
     let t = role .role .given .0 .0 in
     let s = stateIn (at .args .letters .now) (at .args .rest) in
     let k = letterOfKey (at .args .key) in
-    as-ruled (ap (λ (r : ToneKey). toneDoes r s k) (role .role .given .1) ∙ tone-not-there s k t false (no .if2 .left) (sym (goes .tone-goes .ensures ∙ sym (ap (toneGoes t) (is-front (at .args .letters .now) (at .args .rest .count)))) ∙ asked .if3 .left)) (c .before .before .appended2 .ensures)))
+    as-ruled (ap (λ (r : ToneKey). toneDoes r s k) (role .role .given .1) ∙ tone-not-there s k t false (no .if2 .left) (sym (goes .takes-tone .ensures ∙ sym (ap (toneGoes t) (is-front (at .args .letters .now) (at .args .rest .count)))) ∙ asked .if3 .left)) (c .before .before .appended2 .ensures)))

@@ -1,11 +1,14 @@
--- `word::decision` meets its contract: refused, or kept by one of the four reasons.
-use mathlib.Core.Path.{_≡_, sym, ap₂, _∙_}
-use mathlib.Core.Bool.{true, false}
+-- `word::decision` meets its contract: refused, or decided on the word's letters, verdict and counts.
+use mathlib.Core.Path.{_≡_, sym, ap, _∙_}
+use mathlib.Core.Bool.{_&&_}
 use native.Mathlib.Omega.{arith}
+use lib.Dec.{eqb}
 use lib.ListN.{length}
 use borrow.Author.Needs.{needs}
 use Rattle.rules.proofs.Range.{few-letters}
-use Rattle.word.proofs.Answers.{decision-refused, reasons, decided}
+use Rattle.rules.specs.declared.DecisionAnswer.the-variants.{Decided}
+use Rattle.word.specs.Deciding.{decidedBy}
+use Rattle.word.proofs.Answers.{decision-refused, part, decided}
 use Rattle.word.proofs.decision.Statement.{statement}
 use Rattle.word.proofs.decision.Tie as tie
 
@@ -26,14 +29,7 @@ decision-spec =
     (λ c κs. search needs)
     (λ c κs. search needs)
     (λ c.
-    let v = c .before .before in
-    let đ = v .before in
-    let no = đ .before .before .before .before .before .before .before in
+    let no = c .before .before .before .before .before .before .before .before in
     let w = no .before .before .args .w in
-    sym (decided w (sym (no .before .out-of-range .ensures) ∙ no .if1 .left) true (sym (ap₂ (reasons w) (đ .starts-with-d-stroke .ensures) (v .verdict .ensures)) ∙ c .if2 .taken)))
-    (λ c.
-    let v = c .before .before in
-    let đ = v .before in
-    let no = đ .before .before .before .before .before .before .before in
-    let w = no .before .before .args .w in
-    sym (decided w (sym (no .before .out-of-range .ensures) ∙ no .if1 .left) false (sym (ap₂ (reasons w) (đ .starts-with-d-stroke .ensures) (v .verdict .ensures)) ∙ c .if2 .left))))
+    ap Decided (c .decided .ensures ∙ ap (decidedBy (eqb (w .acted) 0 && eqb (w .undone) 0) (w .closed) (part (w .letters) (w .count))) (c .before .verdict .ensures)) ∙
+    sym (decided w (sym (no .before .out-of-range .ensures) ∙ no .if1 .left))))

@@ -1,4 +1,4 @@
--- `word::typed_all` meets its contract. The loop's invariant: the word holds the keys passed, typed.
+-- `word::typed_all` meets its contract. The loop's invariant: the lent arrays and the numbers are the word with the keys passed, typed.
 use mathlib.Core.Path.{_≡_, ap, _∙_}
 use mathlib.Core.List.{List}
 use Prim.Native.Nat.{ℕ, _-_, _≤_}
@@ -11,37 +11,48 @@ use Rattle.rules.specs.WhatComesBack.{step, typed}
 use Rattle.rules.specs.declared.Word.{Word}
 use Rattle.rules.specs.declared.Start.{Start}
 use Rattle.rules.specs.declared.Step.{Step}
+use Rattle.records.specs.Numbers.{numbersOf}
+use Rattle.step.specs.LentWord.{wordIn}
 use Rattle.word.proofs.Lists.{one-more, started}
 use Rattle.word.proofs.typed_all.Statement.{statement}
 use Rattle.word.proofs.typed_all.Tie as tie
 
 abbrev Inv-loop : tie.InvT-loop
-Inv-loop mode keys w₀ i₀ w i = (i ≤ length keys) × (w ≡ holding (newWord mode) (typed mode (take i keys)))
+Inv-loop mode keys l₀ k₀ n₀ i₀ l k n i = (i ≤ length keys) × (wordIn mode l k n ≡ holding (newWord mode) (typed mode (take i keys)))
 
 abbrev μ-loop : tie.MeasureT-loop
-μ-loop mode keys w₀ i₀ w i = length keys - i
+μ-loop mode keys l₀ k₀ n₀ i₀ l k n i = length keys - i
 
 pub typed-all-spec : {M : Type 1} → statement M
 typed-all-spec =
     tie.close
     (tie.spec Inv-loop μ-loop
     (λ c κs. search needs)
+    (λ c κs. search needs)
     (λ c.
-    let at = c .before .before .before in
-    (omega arith, ap (λ (b : Start). b .word) (c .before .start .ensures) ∙ started (at .args .mode) (at .pre .0)))
+    let begun = c .before .before .before .before in
+    let at = begun .before .before in
+    let mode = at .args .mode in
+    let w = begun .start .result .word in (
+      omega arith,
+      ap (wordIn mode (w .letters) (w .keys)) (c .numbers-of .ensures) ∙ ap (λ (b : Start). wordIn mode (b .word .letters) (b .word .keys) (numbersOf (b .word))) (begun .start .ensures) ∙
+          ap (λ (z : Word). wordIn mode (z .letters) (z .keys) (numbersOf z)) (started mode (at .pre .0)),
+    ))
     (λ c. search needs)
     (λ c κs. search needs)
     (λ c. search needs)
     (λ c. omega arith)
     (λ c.
-    let loop = c .before .before .before .before in
-    let at = loop .before .before .before .before in
+    let told = c .before in
+    let turn = told .before .before .before .before in
+    let loop = turn .before in
+    let at = loop .before .before .before .before .before .before .before in
     let i = loop .loop .i in (
       omega arith,
-      ap (λ (s : Step). s .word) (c .before .step .ensures) ∙ ap (λ (w : Word). step w (getD (at .args .keys .now) i 0) .word) (loop .loop .inv .1) ∙
-          one-more (at .args .mode) (at .args .keys .now) (at .pre .0) (at .pre .1) (at .pre .2) i (c .before .before .before .loop-test .taken),
+      ap (λ (s : Step). s .word) (told .step-in .ensures) ∙ ap (λ (w : Word). step w (getD (at .args .keys .now) i 0) .word) (loop .loop .inv .1) ∙
+          one-more (at .args .mode) (at .args .keys .now) (at .pre .0) (at .pre .1) (at .pre .2) i (turn .loop-test .taken),
     ))
     (λ c.
     let loop = c .before in
-    let at = loop .before .before .before .before in
+    let at = loop .before .before .before .before .before .before .before in
     loop .loop .inv .1 ∙ ap (λ (ks : List ℕ). holding (newWord (at .args .mode)) (typed (at .args .mode) ks)) (take-all (loop .loop .i) (at .args .keys .now) (c .loop-test .left))))

@@ -39,6 +39,11 @@ shape-edit-spec =
     (λ c κs. search needs)
     (λ c. search needs)
     (λ c.
+    let told = c .before .before .before .before .before in
+    let at = told .before .before .before in
+    as-key (map letter (take (at .args .count) (at .args .letters .now))) (told .key .given .1) (c .before .before .own-edit .ensures))
+    (λ c. search needs)
+    (λ c.
     let told = c .before .before .before .before in
     let at = told .before .before .before in
     by-key circumflex (map letter (take (at .args .count) (at .args .letters .now))) (told .enum-told .given .1) refl (c .before .before .last-edit .ensures))
@@ -46,19 +51,14 @@ shape-edit-spec =
     (λ c.
     let told = c .before .before .before .before in
     let at = told .before .before .before in
-    by-key circumflex (map letter (take (at .args .count) (at .args .letters .now))) (told .enum-told2 .given .1) refl (c .before .before .last-edit2 .ensures))
+    by-key breve (map letter (take (at .args .count) (at .args .letters .now))) (told .enum-told2 .given .1) refl (c .before .before .last-edit2 .ensures))
     (λ c. search needs)
     (λ c.
     let told = c .before .before .before .before in
     let at = told .before .before .before in
-    by-key breve (map letter (take (at .args .count) (at .args .letters .now))) (told .enum-told3 .given .1) refl (c .before .before .last-edit3 .ensures))
+    as-key (map letter (take (at .args .count) (at .args .letters .now))) (told .enum-told3 .given .1) (c .before .before .horn-edit .ensures))
     (λ c. search needs)
     (λ c.
     let told = c .before .before .before .before in
     let at = told .before .before .before in
-    as-key (map letter (take (at .args .count) (at .args .letters .now))) (told .enum-told4 .given .1) (c .before .before .horn-edit .ensures))
-    (λ c. search needs)
-    (λ c.
-    let told = c .before .before .before .before in
-    let at = told .before .before .before in
-    as-key (map letter (take (at .args .count) (at .args .letters .now))) (told .enum-told5 .given .1) (c .before .before .horn-or-breve .ensures)))
+    as-key (map letter (take (at .args .count) (at .args .letters .now))) (told .enum-told4 .given .1) (c .before .before .horn-or-breve .ensures)))

@@ -1,0 +1,81 @@
+-- The checks on a word as `ask` makes them, and what its answer says: the verdict where the nucleus is not free, and whether a tone goes where it is.
+use mathlib.Core.Path.{_≡_, refl, sym, subst, _∙_}
+use mathlib.Core.Bool.{Bool, true, false, not, _&&_, _||_}
+use mathlib.Core.List.{List, [], _∷_, _++_}
+use Prim.Native.Nat.{ℕ}
+use lib.Dec.{T, eqb}
+use lib.Ieee.Fits.{and-i, and-l, and-r}
+use Rattle.rules.specs.Letters.{Letters, plain, is, same, some, isNil, oneOf, firstBase}
+use Rattle.rules.specs.TakingApart.{initial, nucleus, final, leftovers, initials, finals, fit, Row, rows, takes, stands, someRow, isThis, listed, fits, Check, check, firstThatHolds, agreesAt, agrees, couldBe, someAgrees, admitted}
+use Rattle.rules.specs.KeyRoles.{toneGoes}
+use Rattle.rules.proofs.Tests.{is-true, or-r}
+use Rattle.syllable.specs.Checks.{initialFault, sixth, asked}
+use Rattle.parts.proofs.Bools.{pick, ifSo}
+
+-- what passes a stronger test passes a weaker one
+or-so : (a b c d : Bool) → (T a → T b) → (T c → T d) → T (pick true a c) → T (pick true b d)
+or-so a true c d f g t = tt
+or-so true false c d f g t = absurd (f tt)
+or-so false false c d f g t = g t
+
+and-so : (a b c d : Bool) → (T a → T b) → (T c → T d) → T (ifSo a c) → T (ifSo b d)
+and-so true true c d f g t = g t
+and-so true false c d f g t = absurd (f tt)
+
+some-so : (f g : Letters → Bool) → ((z : Letters) → T (f z) → T (g z)) → (zs : List Letters) → T (some f zs) → T (some g zs)
+some-so f g h (z ∷ zs) t = or-so (f z) (g z) (some f zs) (some g zs) (h z) (some-so f g h zs) t
+
+some-row-so : (f g : Row → Letters → Bool) → ((r : Row) (z : Letters) → T (f r z) → T (g r z)) → (rs : List Row) → T (someRow f rs) → T (someRow g rs)
+some-row-so f g h (r ∷ rs) t = or-so (some (f r) (r .nuclei)) (some (g r) (r .nuclei)) (someRow f rs) (someRow g rs) (some-so (f r) (g r) (h r) (r .nuclei)) (some-row-so f g h rs) t
+
+-- letters agree with themselves, so a listed nucleus agrees with a listed one
+same-agrees : (v z : Letters) → T (same v z) → T (agrees v z)
+same-agrees [] [] t = t
+same-agrees (x ∷ v) (y ∷ z) t =
+    and-so (is x y) (agreesAt x y) (same v z) (agrees v z)
+    (λ h. and-i (eqb (x .base) (y .base)) (eqb (x .shape) plain || eqb (x .shape) (y .shape)) (search and-l) (or-r (eqb (x .shape) plain) (eqb (x .shape) (y .shape)) (search and-r)))
+    (same-agrees v z) t
+
+listed-agrees : (w v f : Letters) → T (listed w v f) → T (someAgrees w v f)
+unfolding listed someAgrees
+listed-agrees w v f =
+    some-row-so (isThis w v f) (couldBe w v f)
+    (λ r z. and-so (same v z) (agrees v z) (stands w z && takes w r z f) (stands w z && (isNil f || takes w r z f)) (same-agrees v z)
+    (λ h. and-i (stands w z) (isNil f || takes w r z f) (search and-l) (or-r (isNil f) (takes w r z f) (search and-r)))) rows
+
+pub listed-free : (free : Bool) (w : Letters) → listed (initial w) (nucleus w) (final w) ≡ true → sixth free w ≡ true
+listed-free true w e = is-true _ (listed-agrees (initial w) (nucleus w) (final w) (subst T (sym e) tt))
+listed-free false w e = e
+
+-- checks 2 and 4 by the initial's fault
+by-fault : (a b c d : Bool) (cs : List Check) → let k = firstThatHolds (check 2 b ∷ check 4 d ∷ []) in
+    firstThatHolds (check 1 a ∷ check 2 (eqb k 2) ∷ check 3 c ∷ check 4 (eqb k 4) ∷ cs) ≡ firstThatHolds (check 1 a ∷ check 2 b ∷ check 3 c ∷ check 4 d ∷ cs)
+by-fault a true c d cs = refl
+by-fault a false c true cs = refl
+by-fault a false c false cs = refl
+
+abbrev pub faultOf : Letters → ℕ
+faultOf w = initialFault (initial w) (firstBase (nucleus w))
+
+pub answered : (w : Letters) (tone : ℕ) (free : Bool) {one two three four five six seven : Bool} → one ≡ isNil (nucleus w) → two ≡ eqb (faultOf w) 2 → three ≡ not (isNil (leftovers w)) → four ≡ eqb (faultOf w) 4 → five ≡ not (oneOf (final w) finals) → six ≡ not (sixth free w) → seven ≡ not (fits (final w) tone) →
+    firstThatHolds (check 1 one ∷ check 2 two ∷ check 3 three ∷ check 4 four ∷ check 5 five ∷ check 6 six ∷ check 7 seven ∷ []) ≡ asked w tone free
+unfolding asked
+answered w tone free a b c d e f g =
+    (λ j. firstThatHolds (check 1 (a j) ∷ check 2 (b j) ∷ check 3 (c j) ∷ check 4 (d j) ∷ check 5 (e j) ∷ check 6 (f j) ∷ check 7 (g j) ∷ [])) ∙ by-fault (isNil (nucleus w)) (not (oneOf (initial w) initials)) (not (isNil (leftovers w))) (not (fit (initial w) (firstBase (nucleus w)))) (check 5 (not (oneOf (final w) finals)) ∷ check 6 (not (sixth free w)) ∷ check 7 (not (fits (final w) tone)) ∷ [])
+
+-- no check holds: the letters are admitted, and the tone fits
+all-pass : (a b c d e s t : Bool) → let five = check 1 a ∷ check 2 b ∷ check 3 c ∷ check 4 d ∷ check 5 e ∷ [] in
+    eqb (firstThatHolds (five ++ (check 6 (not s) ∷ check 7 (not t) ∷ []))) 0 ≡ (ifSo (eqb (firstThatHolds five) 0) s && t)
+all-pass true b c d e s t = refl
+all-pass false true c d e s t = refl
+all-pass false false true d e s t = refl
+all-pass false false false true e s t = refl
+all-pass false false false false true s t = refl
+all-pass false false false false false false t = refl
+all-pass false false false false false true true = refl
+all-pass false false false false false true false = refl
+
+pub free-goes : (w : Letters) (tone : ℕ) → eqb (asked w tone true) 0 ≡ toneGoes tone w
+unfolding admitted asked
+free-goes w tone =
+    all-pass (isNil (nucleus w)) (not (oneOf (initial w) initials)) (not (isNil (leftovers w))) (not (fit (initial w) (firstBase (nucleus w)))) (not (oneOf (final w) finals)) (someAgrees (initial w) (nucleus w) (final w)) (fits (final w) tone)

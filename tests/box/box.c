@@ -1,7 +1,23 @@
-/* The library as the box links it: words typed key by key, every refusal, show, commit and spelling. One line for each check that fails. */
+/*
+ * The library as the box links it: types and numbers of the header, the record byte by byte, words typed key by key, every refusal, show, commit and
+ * spelling. One line for each check that fails.
+ */
 #include "../../box/felcantuzza.h"
 
 extern int printf(const char *form, ...);
+
+/* The calls at their exact types: another type in the header does not compile. The tests below call through the header's names. */
+static const struct {
+    unsigned char (*start)(unsigned char, unsigned char *, unsigned long, unsigned long *);
+    unsigned char (*type)(unsigned char *, unsigned long, unsigned char, unsigned long *);
+    unsigned char (*type_and_show)(unsigned char *, unsigned long, unsigned char, unsigned char *, unsigned long, unsigned long *);
+    unsigned char (*show)(const unsigned char *, unsigned long, unsigned char *, unsigned long, unsigned long *);
+    unsigned char (*verdict)(const unsigned char *, unsigned long, unsigned long *);
+    unsigned char (*place)(const unsigned char *, unsigned long, unsigned long *);
+    unsigned char (*decision)(const unsigned char *, unsigned long, unsigned long *);
+    unsigned char (*commit)(unsigned char, const unsigned char *, unsigned long, const unsigned char *, unsigned long, unsigned long *);
+    unsigned char (*spell)(unsigned char, const unsigned char *, unsigned long, unsigned char *, unsigned long, unsigned long *);
+} calls = {fz_start, fz_type, fz_type_and_show, fz_show, fz_verdict, fz_place, fz_decision, fz_commit, fz_spell};
 
 static int checks, failures;
 
@@ -116,6 +132,47 @@ static void try_card(const struct card *c) {
     }
 }
 
+/* A letter's number as the header says: the small ASCII code, 256 times the shape, 2048 for a capital. */
+enum { PLAIN = 0, CIRCUMFLEX = 1, STROKE = 4, CAPITAL = 2048 };
+#define LETTER(small, shape, capital) ((small) + 256 * (shape) + (capital))
+
+/* A record by the places of the header; every byte of the 104 is one of these. */
+struct record {
+    unsigned char mode;
+    const char *keys; /* bytes 8 to 39, zeros behind them; their number is byte 4 */
+    unsigned char letters, tone, closed, acted, undone, appended;
+    unsigned letter[5]; /* bytes 40 to 103, low byte first, zeros behind them */
+};
+
+static const struct record records[] = {
+    {FZ_TELEX, "", 0, 0, 0, 0, 0, 0, {0}},
+    {FZ_VNI, "", 0, 0, 0, 0, 0, 0, {0}},
+    {FZ_TELEX, "vieejt", 4, 5, 0, 2, 0, 4, {LETTER('v', PLAIN, 0), LETTER('i', PLAIN, 0), LETTER('e', CIRCUMFLEX, 0), LETTER('t', PLAIN, 0)}},
+    {FZ_TELEX, "Dd", 1, 0, 0, 1, 0, 1, {LETTER('d', STROKE, CAPITAL)}},
+    {FZ_VNI, "bA2112", 4, 0, 1, 2, 1, 3, {LETTER('b', PLAIN, 0), LETTER('a', PLAIN, CAPITAL), LETTER('1', PLAIN, 0), LETTER('2', PLAIN, 0)}},
+};
+
+static void try_record(const struct record *r) {
+    unsigned char word[FZ_WORD], text[FZ_TEXT];
+    unsigned long typed = length(r->keys);
+    type_all(r->mode, r->keys, word, text);
+    check(word[0] == r->mode, "byte 0, the mode", r->keys);
+    check(word[1] == r->letters, "byte 1, how many letters", r->keys);
+    check(word[2] == r->tone, "byte 2, the tone", r->keys);
+    check(word[3] == r->closed, "byte 3, open or closed", r->keys);
+    check(word[4] == typed, "byte 4, how many keys were typed", r->keys);
+    check(word[5] == r->acted, "byte 5, how many acted", r->keys);
+    check(word[6] == r->undone, "byte 6, how many undid a mark", r->keys);
+    check(word[7] == r->appended, "byte 7, how many were added as letters", r->keys);
+    for (unsigned long i = 0; i < 32; i++)
+        check(word[8 + i] == (i < typed ? (unsigned char)r->keys[i] : 0), "bytes 8 to 39, the keys", r->keys);
+    for (unsigned long i = 0; i < 32; i++) {
+        unsigned letter = i < r->letters ? r->letter[i] : 0;
+        check(word[40 + 2 * i] == letter % 256, "bytes 40 to 103, a letter's low byte", r->keys);
+        check(word[41 + 2 * i] == letter / 256, "bytes 40 to 103, a letter's high byte", r->keys);
+    }
+}
+
 /* What each key did, as fz_type's value. */
 static void try_outcomes(unsigned char mode, const char *keys, const unsigned long *did) {
     unsigned char word[FZ_WORD];
@@ -179,6 +236,13 @@ static void try_not_spelled(const char *text, unsigned char number, unsigned lon
 int main(void) {
     unsigned char word[FZ_WORD + 1], before[FZ_WORD + 1], text[FZ_TEXT], long_text[FZ_TEXT + 1];
     unsigned long v;
+
+    check(FZ_WORD == 104 && FZ_KEYS == 32 && FZ_TEXT == 96 && FZ_LIST == 9, "104, 32, 96, 9", "lengths of the header");
+    check(FZ_TELEX == 0 && FZ_VNI == 1 && FZ_NOWHERE == 255, "0, 1, 255", "numbers of the header");
+    check(calls.start == fz_start && calls.spell == fz_spell, "the calls at their types", "the header");
+
+    for (unsigned long i = 0; i < sizeof records / sizeof records[0]; i++)
+        try_record(&records[i]);
 
     for (unsigned long i = 0; i < sizeof cards / sizeof cards[0]; i++)
         try_card(&cards[i]);
@@ -266,6 +330,17 @@ int main(void) {
     try_spelled("Đường", "Dduowngf", "D9uo7ng2");
     try_spelled("nghiêng", "nghieeng", "nghie6ng");
     try_spelled("QUÁ", "QUAs", "QUA1");
+
+    /* The longest list there is: nine keys, into exactly FZ_LIST bytes, and into one less refusal 4 with 9. */
+    try_spelled("nghiềng", "nghieengf", "nghie6ng2");
+    for (unsigned char mode = FZ_TELEX; mode <= FZ_VNI; mode++) {
+        const char *text_of_nine = "nghiềng";
+        fill(text, FZ_TEXT, '#');
+        v = UNWRITTEN;
+        check(fz_spell(mode, bytes(text_of_nine), length(text_of_nine), text, 8, &v) == 4 && v == 9 && text[0] == '#', "into 8 bytes refusal 4 with 9", text_of_nine);
+        v = UNWRITTEN;
+        check(fz_spell(mode, bytes(text_of_nine), length(text_of_nine), text, 9, &v) == 0 && v == 9 && text[8] != '#' && text[9] == '#', "into 9 bytes", text_of_nine);
+    }
     try_not_spelled("", 7, 1);
     try_not_spelled("a1", 6, 1);
     try_not_spelled("vi\xE1\xBB", 6, 2);

@@ -90,12 +90,47 @@ fn any_bytes(dice: &mut Dice, most: usize) -> Vec<u8> {
     (0..dice.roll(most + 1)).map(|_| dice.roll(256) as u8).filter(|&b| b != b'\n').collect()
 }
 
+/// Words around q, u, o and yê, written down by hand: the forms are made by the rule that judges, so a rule that is wrong
+/// about these would not make them. As keys in each mode, and as shown, with a shaped u that no keys give after q.
+const AROUND_QU_TELEX: &str = "q qu qw quw qwu quwo quow quwow qwuo quoww quuw quwu quuow quuwo quwuo quo quoo quoow quoi quoai quowi quooi \
+    qua quaw quwa quaa quaaw quau quay quaay que quew quee queew queo quy quyw quye quyee quyew quwyee quyeeu quyeu quyu quya quie quiee quiw \
+    yee yeeu uyee uyw tyee tuyee hyeeu gyee giee giwo qyee qoa qowu uqw uow uw";
+const AROUND_QU_VNI: &str = "q qu q7 qu7 q7u qu7o quo7 qu7o7 q7uo quo77 quu7 qu7u quuo7 quu7o qu7uo quo quo6 quo67 quo76 quoi quoai quo7i quo6i \
+    qua qua8 qua7 qu8a qua6 qua68 quau quay qua6y que que7 que6 que67 queo quy quy7 quye quye6 quy6e quye7 qu6ye qu7ye6 quye6u quyeu quyu quya \
+    quie quie6 qui7 ye6 ye6u uye6 uy7 tye6 tuye6 hye6u gye6 gie6 gi7o qye6 qoa qo7u uq7 uo7 u7";
+const AROUND_QU_SHOWN: &str = "q qu qư qừ qưa qứa qưu qưi qươ qướ qườn qương qựơ quư quứ quươ quưa quướ quườn quo quó quô quố quốc quơ quờ quởn \
+    quơi quôi quoa quoai quă quắn quâ quầy que quê quế quên quy quỳ quýt quỳnh quyu quya quyê quyế quyên quyền quyến quýên qúyên quyén quyết quyêt \
+    quyếch quyềng quyêu quyếu yê yên yêu yếu uyên tyên tyêu tuyên tuyến huyền gyên giyên qyên qiên quiên quiến qúa qứ qụ";
+
+fn around_qu(dice: &mut Dice, mode: Mode) -> Vec<u8> {
+    let (words, marks): (&str, &[u8]) = match mode {
+        Mode::Telex => (AROUND_QU_TELEX, b"sfrxjzweao"),
+        Mode::Vni => (AROUND_QU_VNI, b"0123456789"),
+    };
+    let words: Vec<&str> = words.split_whitespace().collect();
+    let ends: [&[u8]; 8] = [b"", b"", b"n", b"t", b"ng", b"nh", b"c", b"u"];
+    let mut keys = dice.of(&words).as_bytes().to_vec();
+    keys.extend(*dice.of(&ends));
+    if dice.roll(2) == 0 {
+        let at = dice.roll(keys.len() + 1);
+        keys.insert(at, *dice.of(marks));
+    }
+    keys.into_iter().map(|key| in_some_case(dice, key)).collect()
+}
+
+fn around_qu_shown(dice: &mut Dice) -> Vec<u8> {
+    let words: Vec<&str> = AROUND_QU_SHOWN.split_whitespace().collect();
+    let word = *dice.of(&words);
+    let in_case: String = word.chars().flat_map(|c| if dice.roll(8) == 0 { c.to_uppercase().collect::<Vec<_>>() } else { vec![c] }).collect();
+    in_case.into_bytes()
+}
+
 const KEYS: &[u8] = b"aeiouyaeiouydgqhnctpmbklrsvxwsfrxjzADEOUW0123456789";
 
 fn drill_keys(dice: &mut Dice, mode: Mode, forms: &[Vec<Letter>]) -> Vec<u8> {
     let (w, tone) = syllable(dice, forms);
     let (mut keys, mut marks) = bare_and_marks(mode, &w, tone);
-    match dice.roll(10) {
+    match dice.roll(11) {
         // the bare letters, then the marks in any order and case
         0 | 1 => {
             shuffle(dice, &mut marks);
@@ -120,6 +155,7 @@ fn drill_keys(dice: &mut Dice, mode: Mode, forms: &[Vec<Letter>]) -> Vec<u8> {
             }
         }
         7 | 8 => keys = some_bytes(dice, 10, KEYS),
+        9 => keys = around_qu(dice, mode),
         _ => {
             keys = match dice.roll(4) {
                 0 => any_bytes(dice, 40),
@@ -136,7 +172,7 @@ fn spell_text(dice: &mut Dice, forms: &[Vec<Letter>]) -> Vec<u8> {
     let (w, tone) = syllable(dice, forms);
     let text = syllable::shown(&w, tone);
     let mut bytes = text.clone().into_bytes();
-    match dice.roll(10) {
+    match dice.roll(11) {
         0..=3 => {}
         // the tone on another letter, or a second one
         4 | 5 => {
@@ -149,6 +185,7 @@ fn spell_text(dice: &mut Dice, forms: &[Vec<Letter>]) -> Vec<u8> {
         // cut, doubled, foreign or random bytes
         6 | 7 => slip(dice, &mut bytes, &[0xC3, 0xE1, 0xBB, 0x80, 0xC0, 0xF0, b'a', b'1', b' ', 0xBF, 0xC4, 0x91]),
         8 => bytes = syllable::shown(&dice.of(forms).clone(), dice.roll(6)).repeat(1 + dice.roll(40)).into_bytes(),
+        9 => bytes = around_qu_shown(dice),
         _ => bytes = any_bytes(dice, 110),
     }
     bytes
@@ -163,6 +200,13 @@ fn line(dice: &mut Dice, spell: bool, forms: &[Vec<Letter>]) -> Vec<u8> {
     let mut line = if mode == Mode::Telex { b"T ".to_vec() } else { b"V ".to_vec() };
     line.extend(if spell { spell_text(dice, forms) } else { drill_keys(dice, mode, forms) });
     line
+}
+
+/// Each word that is written down, once in each mode as it stands: these lines come first, from every seed.
+fn written_lines(spell: bool) -> Vec<Vec<u8>> {
+    let (telex, vni) = if spell { (AROUND_QU_SHOWN, AROUND_QU_SHOWN) } else { (AROUND_QU_TELEX, AROUND_QU_VNI) };
+    let in_mode = |mode: &str, words: &str| words.split_whitespace().map(|w| format!("{mode} {w}").into_bytes()).collect::<Vec<_>>();
+    [in_mode("T", telex), in_mode("V", vni)].concat()
 }
 
 fn answers_of(program: &str, input: Vec<u8>) -> std::io::Result<Vec<u8>> {
@@ -211,7 +255,7 @@ fn main() -> ExitCode {
     let seed: u64 = seed.parse().expect("a seed");
     let forms = syllable::all_forms();
     let mut dice = Dice(seed.wrapping_mul(0x9E37_79B9_7F4A_7C15) | 1);
-    let lines: Vec<Vec<u8>> = (0..count).map(|_| line(&mut dice, spell, &forms)).collect();
+    let lines: Vec<Vec<u8>> = written_lines(spell).into_iter().chain(std::iter::repeat_with(|| line(&mut dice, spell, &forms))).take(count).collect();
     let mut input = lines.join(&b'\n');
     input.push(b'\n');
     let output = match answers_of(program, input) {

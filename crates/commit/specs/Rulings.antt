@@ -33,3 +33,9 @@ rulingOr (some x) m ks text = Refused x
 
 unfoldable pub rulingOf : ℕ → List ℕ → List ℕ → Ruling
 rulingOf m ks text = rulingOr (refusal (commitCall m ks text)) m ks text
+
+-- where the part that is handed back begins: the text where it is kept, else the keys
+abbrev pub handedFrom : Ruling → (keys text : ℕ × ℕ) → ℕ × ℕ
+handedFrom (Keep n) keys text = text
+handedFrom Restore keys text = keys
+handedFrom (Refused x) keys text = keys

@@ -4,7 +4,8 @@ ghost use mathlib.Core.Bool.{false};
 ghost use Rattle.rules.specs.TheWord.{wordOf};
 ghost use Rattle.rules.specs.Refusals.{sameBytes, outOfRange};
 ghost use Rattle.rules.specs.WhatComesBack.{commit as commitOf, commitAnswer};
-ghost use Rattle.commit.specs.Rulings.{judged, rulingOf};
+ghost use denote.Ref.{ptr};
+ghost use Rattle.commit.specs.Rulings.{judged, rulingOf, handedFrom};
 use rules::CommitAnswer;
 use rules::Decision;
 use rules::DecisionAnswer;
@@ -91,7 +92,7 @@ pub fn rule(mode: u8, keys: &[u8], text: &[u8]) -> Ruling
 
 // The front part of the text or the keys, according to the decision; an empty part of the keys where it is refused.
 pub fn commit<'a>(mode: u8, keys: &'a [u8], text: &'a [u8]) -> &'a [u8]
-    ensures { λ r. ⌜ now r ≡ commitOf mode (now (keys .entry)) (now (text .entry)) ⌝ }
+    ensures { λ r. ⌜ (now r ≡ commitOf mode (now (keys .entry)) (now (text .entry))) × (ptr r ≡ handedFrom (rulingOf mode (now (keys .entry)) (now (text .entry))) (ptr (keys .entry)) (ptr (text .entry))) ⌝ }
 {
     match rule(mode, keys, text) {
         Ruling::Keep(n) => &text[0..n],

@@ -2,8 +2,10 @@
 use mathlib.Core.Path.{_≡_, sym, ap, _∙_}
 use mathlib.Core.Bool.{false}
 use mathlib.Core.List.{List}
-use Prim.Native.Nat.{ℕ}
-use Rattle.rules.specs.TheWord.{State, wordOf}
+use Prim.Native.Nat.{ℕ, _≤_, _<_}
+use borrow.Author.Tests.{lt-ltb, le-ltb}
+use lib.ListN.{length}
+use Rattle.rules.specs.TheWord.{State, wordOf, atFront}
 use Rattle.rules.specs.TakingApart.{verdict}
 use Rattle.rules.specs.TonePlace.{tonePlace}
 use Rattle.rules.specs.CodePoints.{shown}
@@ -11,6 +13,7 @@ use Rattle.rules.specs.Decision.{decision}
 use Rattle.rules.specs.Refusals.{outOfRange, refusal}
 use Rattle.rules.specs.WhatComesBack.{show, placeAnswer, verdictAnswer, decisionAnswer}
 use Rattle.rules.specs.declared.Word.{Word}
+use Rattle.rules.specs.declared.WriteAnswer.the-variants.{Wrote, Refused}
 use Rattle.rules.specs.declared.PlaceAnswer.the-variants.{Found}
 use Rattle.rules.specs.declared.VerdictAnswer.the-variants.{Judged}
 use Rattle.rules.specs.declared.DecisionAnswer.the-variants.{Decided}
@@ -23,8 +26,17 @@ module _ (w : Word) (range : outOfRange w ≡ false) where
   unfolding show put refusal
   shows out = rw range
 
-  pub shows-state : (s : State) → wordOf w .state ≡ s → (out : List ℕ) → show w out ≡ put (shown s) out
+  shows-state : (s : State) → wordOf w .state ≡ s → (out : List ℕ) → show w out ≡ put (shown s) out
   shows-state s e out = shows out ∙ ap (λ (z : State). put (shown z) out) e
+
+  -- with room for its text it is written; without, refused
+  pub writes-state : (s : State) → wordOf w .state ≡ s → (out : List ℕ) → length (shown s) ≤ length out → show w out ≡ record { answer = Wrote (length (shown s)); output = atFront (shown s) out }
+  unfolding put refusal
+  writes-state s e out room = shows-state s e out ∙ rw (le-ltb (length out) (length (shown s)) room)
+
+  pub no-room-for : (s : State) → wordOf w .state ≡ s → (out : List ℕ) → length out < length (shown s) → show w out ≡ record { answer = Refused (record { number = 4; value = length (shown s) }); output = out }
+  unfolding put refusal
+  no-room-for s e out short = shows-state s e out ∙ rw (lt-ltb (length out) (length (shown s)) short)
 
 module _ (v w : Word) (rv : outOfRange v ≡ false) (rw : outOfRange w ≡ false) (same : wordOf v .state ≡ wordOf w .state) where
   pub same-text : (out : List ℕ) → show v out ≡ show w out

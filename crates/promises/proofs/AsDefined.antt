@@ -40,7 +40,7 @@ pub decided : {w : Word} {r : DecisionAnswer} → DecisionAllows w r → r ≡ d
 decided a = a .post
 
 pub handed-back : {m : ℕ} {ks text part : List ℕ} → CommitAllows m ks text part → part ≡ commitOf m ks text
-handed-back a = sym (a .part-is) ∙ a .post ∙ (λ i. commitOf (a .mode i) (a .keys i) (a .of-text i))
+handed-back a = sym (a .part-is) ∙ a .post .0 ∙ (λ i. commitOf (a .mode i) (a .keys i) (a .of-text i))
 
 pub answered : {m : ℕ} {ks text : List ℕ} {r : CommitAnswer} → QuestionAllows m ks text r → r ≡ commitAnswer m ks text
 answered a = a .post ∙ (λ i. commitAnswer (a .mode i) (a .keys i) (a .of-text i))

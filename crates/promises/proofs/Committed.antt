@@ -9,9 +9,9 @@ use Rattle.rules.specs.WhatComesBack.{typed, Written, commitAnswer}
 use Rattle.rules.specs.declared.TypeAll.{TypeAll}
 use Rattle.rules.proofs.Answering.{shows, typed-in-range, typed-word}
 use Rattle.rules.proofs.StaysInRange.{read-front}
-use Rattle.rules.specs.HalfMarked.{HandedBack}
-use Rattle.rules.proofs.Commits.{shown-is-granted, not-half-marked}
-use Rattle.promises.specs.Committed.{ShownIsGranted, NeverHalfMarked}
+use Rattle.rules.specs.HandedBack.{HandedBack}
+use Rattle.rules.proofs.Commits.{shown-is-granted, keys-or-kept-text}
+use Rattle.promises.specs.Committed.{ShownIsGranted, KeptOrKeys}
 use Rattle.promises.proofs.AsDefined.{typed-as, shown-answer, shown-output, handed-back, answered}
 use Rattle.promises.proofs.EachKey.{accepted}
 
@@ -29,5 +29,5 @@ granted m ks ok r t before after a room s =
       λ c q. answered q ∙ ap (commitAnswer m ks) (front ∙ ap (λ (z : Typed). shown (z .state)) word-is) ∙ shown-is-granted m ks (ok .mode) (ok .few) (ok .keys),
     )
 
-pub half-marked-never : NeverHalfMarked
-half-marked-never m ks text part q c = subst (HandedBack m ks) (sym (handed-back c)) (not-half-marked m ks text (sym (answered q)))
+pub kept-or-keys : KeptOrKeys
+kept-or-keys m ks text part q c = subst (HandedBack m ks) (sym (handed-back c)) (keys-or-kept-text m ks text (sym (answered q)))

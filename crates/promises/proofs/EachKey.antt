@@ -1,24 +1,45 @@
--- The step rule at each key: `AtEachKey` of specs/EachKey.antt, by the law on definitions and the contracts.
-use mathlib.Core.Path.{_≡_, refl, sym, ap, _∙_}
-use mathlib.Core.Bool.{not}
-use mathlib.Core.List.{List}
-use Prim.Native.Nat.{ℕ, _+_}
+-- The word after each key: the statements of specs/EachKey.antt, by the laws on definitions and the contracts.
+use mathlib.Core.Path.{_≡_, refl, sym, ap, subst, _∙_}
+use mathlib.Core.Bool.{Bool, false, not}
+use mathlib.Core.List.{List, [], _∷_, _++_}
+use Prim.Native.Nat.{ℕ, _+_, _≤_}
 use native.Mathlib.Omega.{arith}
 use borrow.Author.Tests.{le-ltb}
-use lib.ListN.{length}
-use Rattle.rules.specs.TheWord.{mostKeys, newWord, holding}
-use Rattle.rules.specs.KeyRoles.{isKey}
-use Rattle.rules.specs.Refusals.{all, isMode, refusal}
-use Rattle.rules.specs.WhatComesBack.{start, typed, typeAll}
+use lib.Dec.{T}
+use lib.ListN.{length, length-append}
+use lib.Ieee.Fits.{and-l, and-r, and-i}
+use Rattle.rules.specs.TheWord.{State, Typed as WordTyped, mostKeys, newWord, wordOf, holding, outcomeOf}
+use Rattle.rules.specs.KeyRoles.{isKey, keyDoes}
+use Rattle.rules.specs.TakingApart.{verdict}
+use Rattle.rules.specs.TonePlace.{tonePlace}
+use Rattle.rules.specs.Decision.{decision}
+use Rattle.rules.specs.Refusals.{all, isMode, outOfRange, refusal}
+use Rattle.rules.specs.WhatComesBack.{start, typed, typeAll, Written}
 use Rattle.rules.specs.declared.Word.{Word}
 use Rattle.rules.specs.declared.Start.{Start}
+use Rattle.rules.specs.declared.StartAnswer.the-variants.{Started}
 use Rattle.rules.specs.declared.Step.{Step}
+use Rattle.rules.specs.declared.StepAnswer.the-variants.{Did}
 use Rattle.rules.specs.declared.TypeAll.{TypeAll}
 use Rattle.rules.specs.declared.TypeAnswer.the-variants.{Typed}
+use Rattle.rules.specs.declared.PlaceAnswer.the-variants.{Found}
+use Rattle.rules.specs.declared.VerdictAnswer.the-variants.{Judged}
+use Rattle.rules.specs.declared.DecisionAnswer.the-variants.{Decided}
 use Rattle.rules.proofs.Tests.{is-true}
-use Rattle.rules.proofs.Typing.{stepping, typing-is-stepping}
-use Rattle.promises.specs.EachKey.{Stepped, no-key, key-and-more, Accepted, AtEachKey}
-use Rattle.promises.proofs.AsDefined.{started, stepped, typed-as}
+use Rattle.rules.proofs.Records.{accepted as not-refused}
+use Rattle.rules.proofs.Typing.{kept-mode, kept-keys, stepping, typing-is-stepping}
+use Rattle.rules.proofs.Answering.{finds, judges, decides, typed-in-range, typed-word}
+use Rattle.promises.specs.Contracts.{StepAllows}
+use Rattle.promises.specs.EachKey.{Stepped, no-key, key-and-more, Accepted, EveryPrefix, AsRuled, AfterEachKey, AfterTheList, AtEachKey}
+use Rattle.promises.proofs.AsDefined.{started, stepped, typed-as, shown-answer, shown-output, placed, judged, decided}
+use Rattle.promises.proofs.Alike.{writes-state}
+
+front-allowed : (f : ℕ → Bool) (ks more : List ℕ) → T (all f (ks ++ more)) → T (all f ks)
+front-allowed f [] more t = tt
+front-allowed f (k ∷ ks) more t = and-i (f k) (all f ks) (and-l (f k) (all f (ks ++ more)) t) (front-allowed f ks more (and-r (f k) (all f (ks ++ more)) t))
+
+pub every-prefix : EveryPrefix
+every-prefix m ks more a = record { mode = a .mode; few = omega (arith, length-append ks more); keys = front-allowed (isKey m) ks more (a .keys) }
 
 through : {w v : Word} {ks : List ℕ} → Stepped w ks v → stepping w ks ≡ v
 through no-key = refl
@@ -35,12 +56,51 @@ module _ (m : ℕ) (ks : List ℕ) (ok : Accepted m ks) where
   pub accepted : typeAll m ks .answer ≡ Typed
   accepted = ap (λ (x : TypeAll). x .answer) all-typed
 
-  begun : start m .word ≡ newWord m
+  all-started : start m ≡ record { answer = Started; word = newWord m }
   unfolding refusal
-  begun = let e = ap not (is-true (isMode m) (ok .mode)) in simp e
+  all-started = let e = ap not (is-true (isMode m) (ok .mode)) in simp e
+
+  one-more : (v : Word) → v ≡ holding (newWord m) (typed m ks) → T (not (outOfRange v)) → wordOf v ≡ typed m ks → (k : ℕ) (r : Step) → length ks + 1 ≤ mostKeys → T (isKey m k) → StepAllows v k r →
+      r .answer ≡ Did (outcomeOf (keyDoes (typed m ks) k))
+  one-more v e range word-is k r room key a =
+      let many : v .typed ≡ 0 + length ks = ap (λ (w : Word). w .typed) e ∙ kept-keys (wordOf (newWord m)) ks in
+      let mode-is : v .mode ≡ m = ap (λ (w : Word). w .mode) e ∙ kept-mode (wordOf (newWord m)) ks in
+      let f = not-refused v k range (omega arith) (subst (λ (n : ℕ). T (isKey n k)) (sym mode-is) key) in
+      ap (λ (x : Step). x .answer) (stepped a ∙ f) ∙ ap (λ (z : WordTyped). Did (outcomeOf (keyDoes z k))) word-is
+
+  -- the word that typing them gives, and what is answered of it
+  ruled : (v : Word) → v ≡ holding (newWord m) (typed m ks) → AsRuled m ks v
+  ruled v e =
+      let as-typed : v ≡ typeAll m ks .word = e ∙ sym (ap (λ (x : TypeAll). x .word) all-typed) in
+      let range : outOfRange v ≡ false = ap outOfRange as-typed ∙ typed-in-range m ks accepted in
+      let in-range : T (not (outOfRange v)) = subst (λ (b : Bool). T (not b)) (sym range) tt in
+      let word-is : wordOf v ≡ typed m ks = ap wordOf as-typed ∙ typed-word m ks accepted in
+      let state-is : wordOf v .state ≡ typed m ks .state = ap (λ (z : WordTyped). z .state) word-is in
+      record {
+        word = e;
+        holds = word-is;
+        text = λ {before} room a.
+            let f = writes-state v range (typed m ks .state) state-is before room in
+            (shown-answer a ∙ ap (λ (x : Written). x .answer) f, shown-output a ∙ ap (λ (x : Written). x .output) f);
+        place = λ a. placed a ∙ finds v range ∙ ap (λ (z : State). Found (tonePlace (z .letters) (z .tone))) state-is;
+        judgement = λ a. judged a ∙ judges v range ∙ ap (λ (z : State). Judged (verdict (z .letters) (z .tone))) state-is;
+        keep-or-restore = λ a. decided a ∙ decides v range ∙ ap (λ (z : WordTyped). Decided (decision z)) word-is;
+        next = λ {k} {r} room key a. one-more v e in-range word-is k r room key a;
+      }
+
+pub after-each-key : AfterEachKey
+after-each-key m ks new v ok s p =
+    let e = started s ∙ all-started m ks ok in
+    let n : new .word ≡ newWord m = ap (λ (x : Start). x .word) e in
+    (ap (λ (x : Start). x .answer) e, ruled m ks ok v (sym (through p) ∙ ap (λ (w : Word). stepping w ks) n ∙ typing-is-stepping m ks (ok .mode) (ok .few) (ok .keys)))
+
+pub after-the-list : AfterTheList
+after-the-list m ks r ok t =
+    let e = typed-as t ∙ all-typed m ks ok in
+    (ap (λ (x : TypeAll). x .answer) e, ruled m ks ok (r .word) (ap (λ (x : TypeAll). x .word) e))
 
 pub at-each-key : AtEachKey
 at-each-key m ks new v r ok s p t =
-    let e = typed-as t ∙ all-typed m ks ok in
-    let n : new .word ≡ newWord m = ap (λ (x : Start). x .word) (started s) ∙ begun m ks ok in
-    (ap (λ (x : TypeAll). x .answer) e, ap (λ (x : TypeAll). x .word) e ∙ sym (typing-is-stepping m ks (ok .mode) (ok .few) (ok .keys)) ∙ ap (λ (w : Word). stepping w ks) (sym n) ∙ through p)
+    let (_, stepped-word) = after-each-key m ks new v ok s p in
+    let (answer, typed-word) = after-the-list m ks r ok t in
+    (answer, typed-word .word ∙ sym (stepped-word .word))

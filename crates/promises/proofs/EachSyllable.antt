@@ -20,7 +20,7 @@ use Rattle.forms.proofs.AnyOrder.{any-order}
 use Rattle.promises.specs.Contracts.{TypeAllows}
 use Rattle.promises.specs.EachSyllable.{IsSyllable, SecondHalf}
 use Rattle.promises.proofs.AsDefined.{typed-as, shown-answer, shown-output, judged, decided}
-use Rattle.promises.proofs.Alike.{shows-state}
+use Rattle.promises.proofs.Alike.{writes-state, no-room-for}
 
 -- keys that give a syllable: whatever typing them may answer is that syllable
 pub typed-gives : (m : ℕ) (ks : List ℕ) (w : Letters) (t : ℕ) → T (isMode m) → Gives m ks w t → (r : TypeAll) → TypeAllows m ks r → IsSyllable r w t
@@ -33,10 +33,12 @@ typed-gives m ks w t mode g r a =
     record {
       answer = ap (λ (x : TypeAll). x .answer) e ∙ ok;
       state = state-is;
-      text = λ p. (
-        shown-answer p ∙ ap (λ (x : Written). x .answer) (shows-state (r .word) range (openWord w t) state-is _),
-        shown-output p ∙ ap (λ (x : Written). x .output) (shows-state (r .word) range (openWord w t) state-is _),
-      );
+      text = λ {before} room p.
+          let f = writes-state (r .word) range (openWord w t) state-is before room in
+          (shown-answer p ∙ ap (λ (x : Written). x .answer) f, shown-output p ∙ ap (λ (x : Written). x .output) f);
+      no-room = λ {before} short p.
+          let f = no-room-for (r .word) range (openWord w t) state-is before short in
+          (shown-answer p ∙ ap (λ (x : Written). x .answer) f, shown-output p ∙ ap (λ (x : Written). x .output) f);
       verdict = λ p. judged p ∙ judges (r .word) range ∙ ap (λ (z : Typed). Judged (verdict (z .state .letters) (z .state .tone))) word-is ∙ ap (λ (v : ℕ). Judged v) (g .verdict-0);
       decision = λ p. decided p ∙ decides (r .word) range ∙ ap (λ (z : Typed). Decided (decision z)) word-is ∙ ap (λ (d : Decision). Decided d) (g .kept);
     }

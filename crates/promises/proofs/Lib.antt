@@ -5,3 +5,4 @@ pub mod EachKey
 pub mod EachSyllable
 pub mod RoundTrip
 pub mod Committed
+pub mod Demands

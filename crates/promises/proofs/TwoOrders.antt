@@ -1,6 +1,6 @@
 -- Demand 3, first half: `FirstHalf` of specs/TwoOrders.antt, by the law on records and the contracts.
 use mathlib.Core.Path.{_≡_, refl, sym, ap, _∙_}
-use mathlib.Core.Bool.{Bool, true, false, not}
+use mathlib.Core.Bool.{false}
 use mathlib.Core.List.{List}
 use Prim.Native.Nat.{ℕ}
 use lib.Dec.{T}
@@ -16,9 +16,9 @@ use Rattle.rules.specs.declared.Step.{Step}
 use Rattle.rules.proofs.Tests.{is-false}
 use Rattle.rules.proofs.Commute.{Differ}
 use Rattle.rules.proofs.StaysInRange.{Whole, step-in-range}
-use Rattle.rules.proofs.Records.{withArrays}
+use Rattle.rules.proofs.Answering.{shows, finds, judges, decides}
 use Rattle.rules.proofs.RecordOrders.{record-orders}
-use Rattle.promises.specs.TwoOrders.{differ, OpenWithRoom, BothOrders, FirstHalf}
+use Rattle.promises.specs.TwoOrders.{differ, OpenWithRoom, withKeys, FirstHalf}
 use Rattle.promises.proofs.AsDefined.{stepped, shown-answer, shown-output, placed, judged, decided}
 use Rattle.promises.proofs.Alike.{same-text, same-place, same-verdict, same-decision}
 
@@ -49,7 +49,7 @@ in-range-after w o x y =
     is-false (outOfRange (step (step w x .word) y .word)) (step-in-range (step w x .word) y v r .0)
 
 -- the kept keys have no part in the decision
-decided-alike : (z : Word) (ks : List ℕ) → decision (wordOf (withArrays z (z .letters) ks)) ≡ decision (wordOf z)
+decided-alike : (z : Word) (ks : List ℕ) → decision (wordOf (withKeys z ks)) ≡ decision (wordOf z)
 unfolding keeps
 decided-alike z ks = refl
 
@@ -62,8 +62,7 @@ first-half w k m a b wk wm km mk o differing k-typed k-acted m-typed m-acted m-a
     let same = record-orders w (whole o) (o .range) (o .room) k m (o .open-word) (families (role (w .mode) k) (role (w .mode) m) differing)
     (sym (ap (λ (s : Step). s .answer) e) ∙ k-acted) (sym (ap (λ (s : Step). s .answer) f) ∙ m-acted) in
     let keys = ap (λ (s : Step). s .word .keys) x ∙ ap (λ (z : Word). z .keys) (same .equal) in
-    let words : km .word ≡ withArrays (mk .word) (mk .word .letters) (km .word .keys) =
-    ap (λ (s : Step). s .word) x ∙ same .equal ∙ (λ i. withArrays (sym y i .word) (sym y i .word .letters) (sym keys i)) in
+    let words : km .word ≡ withKeys (mk .word) (km .word .keys) = ap (λ (s : Step). s .word) x ∙ same .equal ∙ (λ i. withKeys (sym y i .word) (sym keys i)) in
     let km-range : outOfRange (km .word) ≡ false = ap (λ (s : Step). outOfRange (s .word)) x ∙ in-range-after w o k m in
     let mk-range : outOfRange (mk .word) ≡ false = ap (λ (s : Step). outOfRange (s .word)) y ∙ in-range-after w o m k in
     let states = ap (λ (z : Word). wordOf z .state) words in
@@ -77,8 +76,14 @@ first-half w k m a b wk wm km mk o differing k-typed k-acted m-typed m-acted m-a
         shown-answer p ∙ ap (λ (z : Written). z .answer) (same-text (km .word) (mk .word) km-range mk-range states _) ∙ sym (shown-answer q),
         shown-output p ∙ ap (λ (z : Written). z .output) (same-text (km .word) (mk .word) km-range mk-range states _) ∙ sym (shown-output q),
       );
-      place = λ p q. placed p ∙ same-place (km .word) (mk .word) km-range mk-range states ∙ sym (placed q);
-      verdict = λ p q. judged p ∙ same-verdict (km .word) (mk .word) km-range mk-range states ∙ sym (judged q);
-      decision = λ p q.
-          decided p ∙ same-decision (km .word) (mk .word) km-range mk-range states (ap (λ (z : Word). decision (wordOf z)) words ∙ decided-alike (mk .word) (km .word .keys)) ∙ sym (decided q);
+      written = λ {out} room p.
+          let f = shows (km .word) km-range out room in
+          (shown-answer p ∙ ap (λ (z : Written). z .answer) f, shown-output p ∙ ap (λ (z : Written). z .output) f);
+      place = λ p q. (_, placed p ∙ finds (km .word) km-range, placed q ∙ sym (same-place (km .word) (mk .word) km-range mk-range states) ∙ finds (km .word) km-range);
+      verdict = λ p q. (_, judged p ∙ judges (km .word) km-range, judged q ∙ sym (same-verdict (km .word) (mk .word) km-range mk-range states) ∙ judges (km .word) km-range);
+      decision = λ p q. (
+        _,
+        decided p ∙ decides (km .word) km-range,
+        decided q ∙ sym (same-decision (km .word) (mk .word) km-range mk-range states (ap (λ (z : Word). decision (wordOf z)) words ∙ decided-alike (mk .word) (km .word .keys))) ∙ decides (km .word) km-range,
+      );
     }

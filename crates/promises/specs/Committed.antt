@@ -1,4 +1,4 @@
--- Commit, of whatever the contracts allow: the text that show writes is granted, and no English word comes out half marked.
+-- Commit, of whatever the contracts allow: the text that show writes is granted, and what is handed back is these keys, or a text with a reason to keep it.
 use mathlib.Core.Path.{_≡_}
 use mathlib.Core.List.{List}
 use Prim.Native.Nat.{ℕ, _≤_}
@@ -9,7 +9,7 @@ use Rattle.rules.specs.declared.WriteAnswer.{WriteAnswer}
 use Rattle.rules.specs.declared.WriteAnswer.the-variants.{Wrote}
 use Rattle.rules.specs.declared.CommitAnswer.{CommitAnswer}
 use Rattle.rules.specs.declared.CommitAnswer.the-variants.{Granted}
-use Rattle.rules.specs.HalfMarked.{HandedBack}
+use Rattle.rules.specs.HandedBack.{HandedBack}
 use Rattle.promises.specs.Contracts.{TypeAllows, ShowAllows, CommitAllows, QuestionAllows}
 use Rattle.promises.specs.EachKey.{Accepted}
 
@@ -20,5 +20,5 @@ ShownIsGranted =
     → ShowAllows (r .word) before a after → (n : ℕ) × (a ≡ Wrote n) × ((c : CommitAnswer) → QuestionAllows m ks (take n after) c → c ≡ Granted)
 
 -- Where commit is granted it hands back these keys, or the shown text of a word that is valid, closed, starts with đ, or had no act or undo.
-abbrev pub NeverHalfMarked : Type 0
-NeverHalfMarked = (m : ℕ) (ks text part : List ℕ) → QuestionAllows m ks text Granted → CommitAllows m ks text part → HandedBack m ks part
+abbrev pub KeptOrKeys : Type 0
+KeptOrKeys = (m : ℕ) (ks text part : List ℕ) → QuestionAllows m ks text Granted → CommitAllows m ks text part → HandedBack m ks part

@@ -26,17 +26,16 @@ pub record Spelled (m : ℕ) (w : Letters) (t : ℕ) (before : List ℕ) (r : Wr
   -- typing it gives the syllable, which shows the same text
   pub again : (x : TypeAll) → TypeAllows m (standardKeys m w t) x → IsSyllable x w t
 
--- Every valid syllable in either mode and every mix of capitals, with room for 9 keys.
+-- Every valid syllable in either mode and every mix of capitals, with room for its list.
 abbrev pub SpelledBack : Type 0
 SpelledBack =
-    (m : ℕ) → T (isMode m) → (w : Letters) (t : ℕ) → Syllable w t → (before after : List ℕ) (r : WriteAnswer) → 9 ≤ length before
+    (m : ℕ) → T (isMode m) → (w : Letters) (t : ℕ) → Syllable w t → (before after : List ℕ) (r : WriteAnswer) → length (standardKeys m w t) ≤ length before
     → SpellAllows m (shown (openWord w t)) before r after → Spelled m w t before r after
 
--- The keys that were written: two texts for which they are the same are one text.
+-- The keys that were written, into whatever output: two texts for which they are the same are one text.
 abbrev pub OneList : Type 0
 OneList =
-    (m : ℕ) → T (isMode m) → (text text′ before before′ after after′ : List ℕ) (n n′ : ℕ) → 9 ≤ length before → 9 ≤ length before′
-    → SpellAllows m text before (Wrote n) after → SpellAllows m text′ before′ (Wrote n′) after′ → take n after ≡ take n′ after′ → text ≡ text′
+    (m : ℕ) (text text′ before before′ after after′ : List ℕ) (n n′ : ℕ) → SpellAllows m text before (Wrote n) after → SpellAllows m text′ before′ (Wrote n′) after′ → take n after ≡ take n′ after′ → text ≡ text′
 
 -- Whatever is spelled, in whatever mode and output, is the shown text of a valid syllable.
 abbrev pub OnlySyllables : Type 0

@@ -5,8 +5,9 @@ use mathlib.Core.List.{List, [], _∷_, _++_}
 use Prim.Native.Nat.{ℕ, _+_, _≤_}
 use lib.Dec.{T}
 use lib.ListN.{length, take}
-use Rattle.rules.specs.TheWord.{mostKeys, atFront}
+use Rattle.rules.specs.TheWord.{mostKeys, mostBytes, wordOf, atFront}
 use Rattle.rules.specs.KeyRoles.{role}
+use Rattle.rules.specs.CodePoints.{shown}
 use Rattle.rules.specs.Refusals.{outOfRange}
 use Rattle.rules.specs.declared.Word.{Word}
 use Rattle.rules.specs.declared.Role.{Role}
@@ -16,10 +17,15 @@ use Rattle.rules.specs.declared.Outcome.the-variants.{Acted}
 use Rattle.rules.specs.declared.Step.{Step}
 use Rattle.rules.specs.declared.StepAnswer.the-variants.{Did}
 use Rattle.rules.specs.declared.WriteAnswer.{WriteAnswer}
+use Rattle.rules.specs.declared.WriteAnswer.the-variants.{Wrote}
 use Rattle.rules.specs.declared.PlaceAnswer.{PlaceAnswer}
+use Rattle.rules.specs.declared.PlaceAnswer.the-variants.{Found}
 use Rattle.rules.specs.declared.VerdictAnswer.{VerdictAnswer}
+use Rattle.rules.specs.declared.VerdictAnswer.the-variants.{Judged}
 use Rattle.rules.specs.declared.DecisionAnswer.{DecisionAnswer}
-use Rattle.rules.proofs.Records.{withArrays}
+use Rattle.rules.specs.declared.DecisionAnswer.the-variants.{Decided}
+use Rattle.rules.specs.declared.Place.{Place}
+use Rattle.rules.specs.declared.Decision.{Decision}
 use Rattle.promises.specs.Contracts.{StepAllows, ShowAllows, PlaceAllows, VerdictAllows, DecisionAllows}
 
 -- The families: tone with clear; vowel shape; stroke. A key without a role is of none.
@@ -49,21 +55,40 @@ pub record OpenWithRoom (w : Word) : Type 0 where
   pub open-word : w .closed ≡ false
   pub room : w .typed + 2 ≤ mostKeys
 
+-- a record with other kept keys
+abbrev pub withKeys : Word → List ℕ → Word
+withKeys w ks =
+    record {
+      mode = w .mode;
+      letters = w .letters;
+      count = w .count;
+      tone = w .tone;
+      closed = w .closed;
+      keys = ks;
+      typed = w .typed;
+      acted = w .acted;
+      undone = w .undone;
+      appended = w .appended;
+    }
+
 -- What is promised of the results of both orders: `km` is k and then m, `mk` is m and then k.
 pub record BothOrders (w : Word) (k m : ℕ) (a b : Act) (km mk : Step) : Type 0 where
   -- both keys act in both orders
   pub m-acts : km .answer ≡ Did (Acted b)
   pub k-acts : mk .answer ≡ Did (Acted a)
   -- the two words are equal in letters, tone, mark and counts: in everything but the kept keys,
-  pub words : km .word ≡ withArrays (mk .word) (mk .word .letters) (km .word .keys)
+  pub words : km .word ≡ withKeys (mk .word) (km .word .keys)
   -- which are the old keys and then the two in the order typed
   pub k-then-m : km .word .keys ≡ atFront (take (w .typed) (w .keys) ++ (k ∷ m ∷ [])) (w .keys)
   pub m-then-k : mk .word .keys ≡ atFront (take (w .typed) (w .keys) ++ (m ∷ k ∷ [])) (w .keys)
-  -- the same text at the front of any output, the same place, verdict and decision
+  -- the same text into any output, written where there is room for any text
   pub text : {out after after′ : List ℕ} {r r′ : WriteAnswer} → ShowAllows (km .word) out r after → ShowAllows (mk .word) out r′ after′ → (r ≡ r′) × (after ≡ after′)
-  pub place : {r r′ : PlaceAnswer} → PlaceAllows (km .word) r → PlaceAllows (mk .word) r′ → r ≡ r′
-  pub verdict : {r r′ : VerdictAnswer} → VerdictAllows (km .word) r → VerdictAllows (mk .word) r′ → r ≡ r′
-  pub decision : {r r′ : DecisionAnswer} → DecisionAllows (km .word) r → DecisionAllows (mk .word) r′ → r ≡ r′
+  pub written : {out after : List ℕ} {r : WriteAnswer} → mostBytes ≤ length out → ShowAllows (km .word) out r after →
+      (r ≡ Wrote (length (shown (wordOf (km .word) .state)))) × (after ≡ atFront (shown (wordOf (km .word) .state)) out)
+  -- the same place, verdict and decision, and none of these is a refusal
+  pub place : {r r′ : PlaceAnswer} → PlaceAllows (km .word) r → PlaceAllows (mk .word) r′ → (p : Place) × (r ≡ Found p) × (r′ ≡ Found p)
+  pub verdict : {r r′ : VerdictAnswer} → VerdictAllows (km .word) r → VerdictAllows (mk .word) r′ → (v : ℕ) × (r ≡ Judged v) × (r′ ≡ Judged v)
+  pub decision : {r r′ : DecisionAnswer} → DecisionAllows (km .word) r → DecisionAllows (mk .word) r′ → (d : Decision) × (r ≡ Decided d) × (r′ ≡ Decided d)
 
 -- Two keys whose roles in the word's mode are of different families; each of them, typed alone, acts. Then the promise holds of any results that the contracts allow.
 abbrev pub FirstHalf : Type 0

@@ -1,4 +1,4 @@
--- Commit: of the text that the keys show it is never refused; and it hands back these keys, or a shown text that is not half marked.
+-- Commit: of the text that the keys show it is never refused; and it hands back these keys, or a shown text with a reason to keep it.
 use mathlib.Core.Path.{_≡_, refl, sym, ap, ap₂, subst}
 use mathlib.Core.Bool.{Bool, true, false, _&&_}
 use mathlib.Core.List.{List, [], _∷_}
@@ -15,7 +15,7 @@ use Rattle.rules.specs.Decision.{startsWithĐ, keeps, keepIf, handedBack
 use Rattle.rules.specs.CodePoints.{shown}
 use Rattle.rules.specs.Refusals.{all, isMode, sameBytes, table, refusal}
 use Rattle.rules.specs.WhatComesBack.{typed, commitCall, commitOr, commit, grantedOr, commitAnswer}
-use Rattle.rules.specs.HalfMarked.{NotHalfMarked, valid, closed, with-đ, untouched, HandedBack, the-keys, the-text}
+use Rattle.rules.specs.HandedBack.{KeptSince, valid, closed, with-đ, untouched, HandedBack, the-keys, the-text}
 use Rattle.rules.specs.declared.Refusal.{Refusal}
 use Rattle.rules.specs.declared.CommitAnswer.the-variants.{Granted}
 use Rattle.rules.proofs.Tests.{either}
@@ -48,7 +48,7 @@ shown-is-granted m ks mode few keys =
     (not-this (not-over mostBytes (length text) (few-bytes (typed m ks .state) letters)) (not-this (twice (all (isKey m) ks) keys)
     (not-this tt (not-this tt (not-this (twice (sameBytes text text) (same-self text)) (not-this tt no-rows))))))))))
 
-kept-why : (z : Typed) → keeps z ≡ true → NotHalfMarked z
+kept-why : (z : Typed) → keeps z ≡ true → KeptSince z
 unfolding keeps
 kept-why z e =
     either (eqb (z .acted) 0 && eqb (z .undone) 0) _
@@ -62,10 +62,10 @@ text-shown : (m : ℕ) (ks text : List ℕ) → NoneHolds (table (commitCall m k
 text-shown m ks text (not-this a (not-this b (not-this c (not-this d (not-this e (not-this f (not-this g (not-this same n)))))))) =
     same-bytes text (shown (typed m ks .state)) (not-not (sameBytes text (shown (typed m ks .state))) same)
 
--- What commit hands back where it is granted is these keys, or the shown text of a word that is not half marked.
-pub not-half-marked : (m : ℕ) (ks text : List ℕ) → commitAnswer m ks text ≡ Granted → HandedBack m ks (commit m ks text)
+-- What commit hands back where it is granted is these keys, or the shown text of a word that is kept, with the reason.
+pub keys-or-kept-text : (m : ℕ) (ks text : List ℕ) → commitAnswer m ks text ≡ Granted → HandedBack m ks (commit m ks text)
 unfolding commitAnswer commit
-not-half-marked m ks text = go (refusal (commitCall m ks text)) refl
+keys-or-kept-text m ks text = go (refusal (commitCall m ks text)) refl
   where
     chosen : (b : Bool) → keeps (typed m ks) ≡ b → text ≡ shown (typed m ks .state) → HandedBack m ks (handedBack (keepIf b) text ks)
     chosen true e t = the-text t (kept-why (typed m ks) e)

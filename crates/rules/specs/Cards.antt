@@ -26,6 +26,7 @@ pub record Card : Type 0 where
   pub text : String
   pub back : String
   pub verdictIs : Option ℕ
+  pub toneIs : Option ℕ
   pub placeIs : Option ℕ
   pub closedIs : Option Bool
   pub decisionIs : Option Decision
@@ -55,9 +56,10 @@ told c z =
     sameBytes (shown (z .state)) (utf8Of (characters (c .text))) &&
     (sameBytes (commit (c .mode) (characters (c .keys)) (shown (z .state))) (utf8Of (characters (c .back))) &&
     (isNumber (c .verdictIs) (verdict (z .state .letters) (z .state .tone)) &&
+    (isNumber (c .toneIs) (z .state .tone) &&
     (isPlace (c .placeIs) (tonePlace (z .state .letters) (z .state .tone)) &&
     (isMark (c .closedIs) (z .state .closed) &&
-    isDecision (c .decisionIs) (decision z)))))
+    isDecision (c .decisionIs) (decision z))))))
 
 abbrev holds : Card → Bool
 holds c = told c (typed (c .mode) (characters (c .keys)))
@@ -67,7 +69,7 @@ everyCard [] = true
 everyCard (c ∷ cs) = holds c && everyCard cs
 
 abbrev pub card : String → String → Option ℕ → Option ℕ → Option Bool → Option Decision → Card
-card keys text v p m d = record { mode = telex; keys = keys; text = text; back = text; verdictIs = v; placeIs = p; closedIs = m; decisionIs = d }
+card keys text v p m d = record { mode = telex; keys = keys; text = text; back = text; verdictIs = v; toneIs = none; placeIs = p; closedIs = m; decisionIs = d }
 
 abbrev pub starred : List Card
 starred =
@@ -76,7 +78,7 @@ starred =
     card "hoas" "hóa" none (some 1) none none ∷
     card "hoasn" "hoán" none (some 2) none none ∷
     card "claus" "claus" (some 2) none none (some Keep) ∷
-    record { mode = telex; keys = "text"; text = "tẽt"; back = "text"; verdictIs = some 7; placeIs = some 1; closedIs = none; decisionIs = some Restore } ∷
+    record { mode = telex; keys = "text"; text = "tẽt"; back = "text"; verdictIs = some 7; toneIs = some 4; placeIs = some 1; closedIs = none; decisionIs = some Restore } ∷
     card "tesst" "test" none none (some true) (some Keep) ∷
     card "dod" "đo" none none none none ∷
     card "nguoiwf" "người" none (some 3) none none ∷
@@ -84,7 +86,7 @@ starred =
     card "gias" "giá" none (some 2) none none ∷
     card "aww" "aw" none none (some true) none ∷
     card "carps" "cáp" none none none none ∷
-    record { mode = vni; keys = "d9uong72"; text = "đường"; back = "đường"; verdictIs = none; placeIs = some 2; closedIs = none; decisionIs = none } ∷
+    record { mode = vni; keys = "d9uong72"; text = "đường"; back = "đường"; verdictIs = none; toneIs = none; placeIs = some 2; closedIs = none; decisionIs = none } ∷
     []
 
 -- Drill lines and their answers: the whole case of "Drill program", and what is refused first where two refusals could be given.
@@ -106,7 +108,21 @@ lines =
     answers "T " "- - 1 0 - K" ∷
     answers "T aaaaaaaaaaaaaaaaaaaaaaaaaaaaaaaa1" "! 2 32" ∷
     answers "V aaaaaaaaaaaaaaaaaaaaaaaaaaaaaaa!" "! 3 31" ∷
+    -- a closed word is kept as it stands, also where it is no syllable and carries a mark
+    answers "T reserve" "rẻve rẻve 3 3 1 K" ∷
+    answers "T tomorrow" "tômrow tômrow 3 0 - K" ∷
     []
+
+-- The whole case of "Drill program", header included.
+abbrev inLines : List String → List ℕ
+inLines [] = []
+inLines (l ∷ ls) = utf8Of (characters l) ++ (newline ∷ inLines ls)
+
+abbrev pub workedInput : List ℕ
+workedInput = inLines ("T vieejt" ∷ "T text" ∷ "V a11" ∷ "T a1" ∷ [])
+
+abbrev pub workedAnswers : List ℕ
+workedAnswers = inLines ("shown commit verdict tone place decision" ∷ "việt việt 0 5 2 K" ∷ "tẽt text 7 4 1 R" ∷ "a1 a1 5 0 - K" ∷ "! 3 1" ∷ [])
 
 -- Lines of the speller as a program.
 abbrev pub spellLines : List Line

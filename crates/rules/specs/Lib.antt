@@ -13,4 +13,4 @@ pub mod Drill
 pub mod SpellProgram
 pub mod Cards
 pub mod Apprentices
-pub mod HalfMarked
+pub mod HandedBack

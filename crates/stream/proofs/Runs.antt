@@ -1,7 +1,8 @@
 -- Feeding the input in blocks cut anywhere writes the answers to its lines: the drill's behind the header, and the speller's.
 use mathlib.Core.Path.{_≡_, refl, sym, ap, _∙_}
 use mathlib.Core.Bool.{Bool, true, false}
-use mathlib.Core.List.{List, [], _∷_, _++_, append-assoc}
+use mathlib.Core.List.{List, [], _∷_, _++_, append-assoc, append-nil}
+use mathlib.Core.Option.{Option, none, some}
 use Prim.Native.Nat.{ℕ, suc, _+_, _-_, _<_}
 use native.Mathlib.Numerals.{add-one}
 use native.Mathlib.Omega.{arith}
@@ -11,12 +12,31 @@ use lib.ListN.{length, take, drop, set, length-set, length-take}
 use lib.Seq.{take-suc-set, take-append-le}
 use Rattle.rules.specs.Drill.{newline, header, lastLine, linesFrom, answers, drill}
 use Rattle.rules.specs.SpellProgram.{spellProgram}
+use Rattle.rules.specs.Refusals.{refusal}
+use Rattle.rules.specs.WhatComesBack.{writeOr}
+use Rattle.rules.specs.declared.Refusal.{Refusal}
+use Rattle.rules.specs.declared.WriteAnswer.the-variants.{Wrote}
+use Rattle.rules.proofs.StaysInRange.{read-front}
+use Rattle.output.specs.Front.{roomCall, put}
 use Rattle.lines.specs.Programs.{answerOf}
 use Rattle.lines.specs.declared.Program.{Program}
 use Rattle.lines.specs.declared.Program.the-variants.{Drill, Spell}
-use Rattle.stream.specs.Feeding.{mostKept, noneBegun, lineOf, answerNow, keptIf, kept, ByteFed, byteIf, byteFed, Feeding, stopped, after, feeding, Run, finished, fed}
+use Rattle.stream.specs.Feeding.{mostKept, noneBegun, lineOf, answerNow, keptIf, kept, ByteFed, byteIf, byteFed, Feeding, stopped, after, feeding, finishOr, Run, finished, fed}
 use Rattle.stream.specs.declared.Begun.{Begun}
 use Rattle.stream.proofs.FirstBytes.{alike}
+
+-- what is written of a text into a lent output, if it is not refused, is the text; so of the last line, which counts if not empty
+put-read : (text out : List ℕ) (n : ℕ) → put text out .answer ≡ Wrote n → take n (put text out .output) ≡ text
+unfolding put
+put-read text out n e = go (refusal (roomCall text out)) e
+  where
+    go : (o : Option Refusal) → writeOr o text out .answer ≡ Wrote n → take n (writeOr o text out .output) ≡ text
+    go none f = let l : length text ≡ n = cc in read-front text out n l
+    go (some x) f = let z : _≡_ {A = ℕ} 0 1 = cc in absurd (omega arith)
+
+last-read : (q : Program) (l out : List ℕ) (n : ℕ) → finishOr q l out .answer ≡ Wrote n → take n (finishOr q l out .output) ≡ answers (answerOf q) (lastLine l)
+last-read q [] out n e = let z : n ≡ 0 = cc in ap (λ (k : ℕ). take k out) z
+last-read q (b ∷ bs) out n e = put-read (answerOf q (b ∷ bs)) out n e ∙ sym (append-nil (answerOf q (b ∷ bs)))
 
 module _ (p : Program) where
   -- a state of this program, whose array is as long as the code's
@@ -102,7 +122,7 @@ module _ (p : Program) where
 
   -- a whole run, from any state
   pub all-answered : {s : Begun} {input text : List ℕ} → Whole s → Run s input text → text ≡ answersTo (lineOf s) input
-  all-answered {s} w finished = ap (λ (q : Program). answers (answerOf q) (lastLine (lineOf s))) (w .own)
+  all-answered {s} w (finished out n e) = last-read (s .program) (lineOf s) out n e ∙ ap (λ (q : Program). answers (answerOf q) (lastLine (lineOf s))) (w .own)
   all-answered {s} w (fed block later room run) =
       let a = answered s block room w in
       ap (λ (t : List ℕ). feeding s block room .text ++ t) (all-answered (a .whole) run) ∙ a .same later

@@ -1,12 +1,13 @@
 -- A stream of a program's lines in blocks: what is kept of the line that has begun, and what feeding bytes writes.
 -- Of a line only the first 99 bytes matter: T or V, a space, and 97 bytes, which are more than a text may have, and more than a word takes.
+use mathlib.Core.Path.{_≡_}
 use mathlib.Core.Bool.{Bool, true, false}
 use mathlib.Core.List.{List, [], _∷_, _++_}
 use Prim.Native.Nat.{ℕ, _+_, _-_}
 use lib.Dec.{eqb, leb, ltb}
 use lib.ListN.{length, take, drop, set, replicate}
 use Rattle.rules.specs.WhatComesBack.{Written}
-use Rattle.rules.specs.Drill.{newline, lastLine, answers}
+use Rattle.rules.specs.Drill.{newline}
 use Rattle.rules.specs.TheWord.{atFront}
 use Rattle.rules.specs.declared.WriteAnswer.the-variants.{Wrote}
 use Rattle.lines.specs.Programs.{answerOf, lineAnswer}
@@ -94,9 +95,10 @@ finishOr p (b ∷ bs) out = lineAnswer p (b ∷ bs) out
 abbrev pub finishing : Begun → List ℕ → Written
 finishing s out = finishOr (s .program) (lineOf s) out
 
--- A run from a state over the bytes still to come, and all that it writes. Blocks are cut anywhere, each is fed with any room, and what it does not take is fed again.
+-- A run from a state over the bytes still to come, and all that it writes. Blocks are cut anywhere, each is fed with any room, and what it does not take is fed again;
+-- at the end it is finished into an output with room for the last answer.
 pub data Run : Begun → List ℕ → List ℕ → Type 0 where
-  finished : {s : Begun} → Run s [] (answers (answerOf (s .program)) (lastLine (lineOf s)))
+  finished : {s : Begun} (out : List ℕ) (n : ℕ) → finishing s out .answer ≡ Wrote n → Run s [] (take n (finishing s out .output))
   fed : {s : Begun} (block later : List ℕ) (room : ℕ) {text : List ℕ}
       → Run (feeding s block room .state) (drop (feeding s block room .taken) block ++ later) text
       → Run s (block ++ later) (feeding s block room .text ++ text)

@@ -6,3 +6,4 @@ pub mod EachSyllable
 pub mod RoundTrip
 pub mod Committed
 pub mod Demands
+pub mod Clauses

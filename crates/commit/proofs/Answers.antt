@@ -15,11 +15,11 @@ use Rattle.rules.specs.Refusals.{all, isMode, sameBytes, allowedBefore, refusal
 use Rattle.rules.specs.WhatComesBack.{typed, typeAll}
 use Rattle.rules.specs.declared.Word.{Word}
 use Rattle.rules.specs.declared.Refusal.{Refusal}
-use Rattle.rules.specs.declared.TypeAnswer.the-variants.{Typed as AllTyped}
+use Rattle.rules.specs.declared.TypeAnswer.the-variants.{AllTyped}
 use Rattle.rules.specs.declared.TypeAnswer.the-variants.{Refused as TypeRefused}
 use Rattle.rules.specs.declared.Decision.{Decision}
 use Rattle.rules.specs.declared.Decision.the-variants.{Keep as Kept, Restore as Restored}
-use Rattle.rules.proofs.Answering.{typed-word}
+use Rattle.rules.proofs.NotRefused.{typed-word}
 use Rattle.rules.proofs.Commits.{same-bytes}
 use Rattle.commit.specs.declared.Ruling.{Ruling}
 use Rattle.commit.specs.declared.Ruling.the-variants.{Keep, Restore, Refused}

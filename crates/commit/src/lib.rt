@@ -73,7 +73,7 @@ fn judge(w: Word, text: &[u8]) -> Ruling
 pub fn rule(mode: u8, keys: &[u8], text: &[u8]) -> Ruling
     ensures { λ r. ⌜ r ≡ rulingOf mode (now (keys .entry)) (now (text .entry)) ⌝ }
 {
-    if !((mode == Word::TELEX) | (mode == Word::VNI)) {
+    if !keys::is_mode(mode) {
         return refused(1, 0);
     }
     if Word::KEYS < keys.len() {

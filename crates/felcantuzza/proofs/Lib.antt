@@ -1,3 +1,3 @@
 pub mod Rooms
-pub mod Tells
+pub mod CallAnswers
 pub mod One

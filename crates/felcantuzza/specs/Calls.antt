@@ -9,7 +9,7 @@ use Rattle.rules.specs.Decision as Decided
 use Rattle.rules.specs.WhatComesBack as Rules
 use Rattle.rules.specs.declared.Refusal.{Refusal}
 use Rattle.rules.specs.declared.Decision.{Decision}
-use Rattle.layout.specs.Places.{isLong, asRecord, written}
+use Rattle.layout.specs.Places.{isLong, asRecord, recordWritten}
 use Rattle.press.specs.StepAndShow.{stepAndShow}
 use Rattle.press.specs.declared.ShownAnswer.{ShownAnswer}
 use Rattle.press.specs.declared.ShownAnswer.the-variants.{Did}
@@ -26,10 +26,10 @@ value one (answered ns) = one ns
 value one (refused n v) = v
 
 -- 16 times the kind of what a key did, and the tone or the shape
-abbrev pub packed : List ℕ → ℕ
-packed [] = 0
-packed (kind ∷ []) = 16 * kind
-packed (kind ∷ detail ∷ ns) = 16 * kind + detail
+abbrev pub inOne : List ℕ → ℕ
+inOne [] = 0
+inOne (kind ∷ []) = 16 * kind
+inOne (kind ∷ detail ∷ ns) = 16 * kind + detail
 
 -- a single number; 0 where there is none
 abbrev pub single : List ℕ → ℕ
@@ -55,13 +55,13 @@ unfoldable pub start : ℕ → List ℕ → Says
 start mode lent = ofRecord (isLong lent) (startSays (Rules.start mode .answer))
 
 abbrev pub startWord : ℕ → List ℕ → List ℕ
-startWord mode lent = unlessRefused (start mode lent) (written (Rules.start mode .word) lent) lent
+startWord mode lent = unlessRefused (start mode lent) (recordWritten (Rules.start mode .word) lent) lent
 
 unfoldable pub type : List ℕ → ℕ → Says
 type lent key = ofRecord (asRecord lent .is_record) (stepSays (Rules.step (asRecord lent .word) key .answer))
 
 abbrev pub typeWord : List ℕ → ℕ → List ℕ
-typeWord lent key = unlessRefused (type lent key) (written (Rules.step (asRecord lent .word) key .word) lent) lent
+typeWord lent key = unlessRefused (type lent key) (recordWritten (Rules.step (asRecord lent .word) key .word) lent) lent
 
 -- the bytes written
 abbrev pub shownSays : ShownAnswer → Says
@@ -72,7 +72,7 @@ unfoldable pub typeAndShow : List ℕ → ℕ → List ℕ → Says
 typeAndShow lent key out = ofRecord (asRecord lent .is_record) (shownSays (stepAndShow (asRecord lent .word) key out .result .answer))
 
 abbrev pub typeAndShowWord : List ℕ → ℕ → List ℕ → List ℕ
-typeAndShowWord lent key out = unlessRefused (typeAndShow lent key out) (written (stepAndShow (asRecord lent .word) key out .result .word) lent) lent
+typeAndShowWord lent key out = unlessRefused (typeAndShow lent key out) (recordWritten (stepAndShow (asRecord lent .word) key out .result .word) lent) lent
 
 abbrev pub typeAndShowOutput : List ℕ → ℕ → List ℕ → List ℕ
 typeAndShowOutput lent key out = unlessRefused (typeAndShow lent key out) (stepAndShow (asRecord lent .word) key out .output) out

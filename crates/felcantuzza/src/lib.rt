@@ -41,7 +41,7 @@ fn no_record(value: &mut usize) -> u8
 }
 
 fn act_number(act: Act) -> usize
-    ensures { λ r. ⌜ r ≡ Calls.packed (outcomeNumbers (Outcome.Acted act)) ⌝ }
+    ensures { λ r. ⌜ r ≡ Calls.inOne (outcomeNumbers (Outcome.Acted act)) ⌝ }
 {
     match act {
         Act::Tone(tone) => 16 + tone as usize,
@@ -53,7 +53,7 @@ fn act_number(act: Act) -> usize
 
 // What a key did: 16 times its kind, and the tone or the shape.
 fn outcome_number(outcome: Outcome) -> usize
-    ensures { λ r. ⌜ r ≡ Calls.packed (outcomeNumbers outcome) ⌝ }
+    ensures { λ r. ⌜ r ≡ Calls.inOne (outcomeNumbers outcome) ⌝ }
 {
     match outcome {
         Outcome::Acted(act) => act_number(act),
@@ -103,7 +103,7 @@ pub extern "C" fn fz_start(mode: u8, lent: &mut [u8], value: &mut usize) -> u8
 // A key typed; the value is what it did. Refusals: 8, 2, 3.
 #[no_mangle]
 pub extern "C" fn fz_type(lent: &mut [u8], key: u8, value: &mut usize) -> u8
-    ensures { λ r. ⌜ (r ≡ Calls.returned (Calls.type (now (lent .entry)) key)) × (now (value .exit) ≡ Calls.value Calls.packed (Calls.type (now (lent .entry)) key)) × (now (lent .exit) ≡ Calls.typeWord (now (lent .entry)) key) ⌝ }
+    ensures { λ r. ⌜ (r ≡ Calls.returned (Calls.type (now (lent .entry)) key)) × (now (value .exit) ≡ Calls.value Calls.inOne (Calls.type (now (lent .entry)) key)) × (now (lent .exit) ≡ Calls.typeWord (now (lent .entry)) key) ⌝ }
 {
     let reading = layout::read(lent);
     if !reading.is_record {

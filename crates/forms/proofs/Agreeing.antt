@@ -13,8 +13,8 @@ use Rattle.rules.proofs.Edits.{dee}
 use Rattle.rules.proofs.Tests.{either as or-else, or-l, or-r}
 use Rattle.rules.proofs.Tests.{is-true}
 use Rattle.forms.specs.Forms.{capitals, cased}
-use Rattle.forms.proofs.Courses.{bare}
-use Rattle.forms.proofs.Meets.{and-if, and-so, some-row-so, meet}
+use Rattle.forms.proofs.KeyCourses.{bare}
+use Rattle.forms.proofs.SomeAndEvery.{and-if, and-so, some-row-so, meet}
 use Rattle.forms.proofs.Cases.{same-cased}
 use Rattle.forms.proofs.Bridge.{Passed, passed}
 

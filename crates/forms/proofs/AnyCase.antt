@@ -6,7 +6,7 @@ use Rattle.rules.specs.Letters.{Letters, acute, same}
 use Rattle.rules.specs.TakingApart.{admitted, verdict}
 use Rattle.forms.specs.Forms.{allForms, capitals, inCases}
 use Rattle.forms.specs.Sizes.{isValid}
-use Rattle.forms.proofs.Meets.{meet}
+use Rattle.forms.proofs.SomeAndEvery.{meet}
 use Rattle.forms.proofs.Cases.{same-cased, same-as-cased}
 use Rattle.forms.proofs.EachValid.{complete}
 use Rattle.forms.proofs.Agreeing.{valid-admitted}

@@ -1,16 +1,16 @@
 -- A word whose verdict is 0 passed every check, is its initial, nucleus and final, and these are an initial, a nucleus and a final of the tables that make a form.
 use mathlib.Core.Path.{_≡_, refl, sym, ap, ap₂, subst, _∙_}
 use mathlib.Core.Bool.{Bool, true, false, not, _&&_, _||_}
-use mathlib.Core.List.{List, [], _∷_, _++_, append-nil, append-assoc}
+use mathlib.Core.List.{List, [], _∷_, _++_, append-nil}
 use Prim.Native.Nat.{ℕ}
 use Prim.Native.Char.{code}
 use lib.Dec.{T, eqb}
 use lib.Ieee.Fits.{and-i, and-l, and-r, eq→eqb}
-use Rattle.rules.specs.Letters.{Letter, Letters, named, is, same, some, oneOf, isNil, firstBase}
-use Rattle.rules.specs.TakingApart.{isKind, frontIf, front, pastIf, past, before, run, plainU, iAndAnother, joins, withFirst, rest, initialOf, nucleusOf, initial, nucleus, final, leftovers, initials, fit, finals, Row, rows, takes, stands, someRow, isThis, listed, fits, check, firstThatHolds, verdict}
+use Rattle.rules.specs.Letters.{Letter, Letters, named, is, same, someWord, oneOf, isNil, firstBase}
+use Rattle.rules.specs.TakingApart.{before, run, plainU, iAndAnother, joins, withFirst, rest, initialOf, nucleusOf, initial, nucleus, final, leftovers, initials, fit, finals, Row, rows, takes, stands, someRow, isThis, listed, fits, check, firstThatHolds, verdict}
 use Rattle.rules.proofs.Wholes.{whole}
 use Rattle.forms.specs.Forms.{gather, gatherRows, thoseIf, withFinal, mayFollow, withNucleus, withInitial, allForms, capitals}
-use Rattle.forms.proofs.Meets.{either, and-if, or-so}
+use Rattle.forms.proofs.SomeAndEvery.{either, and-if, or-so}
 use Rattle.forms.proofs.Cases.{same-cased, same-append, fit-cased, stands-cased, joins-cased, takes-cased}
 
 -- the checks that a verdict of 0 passed
@@ -90,37 +90,37 @@ joined-once b r = go (joins b r) refl
     go false e = e
 
 -- one of a list that is gathered
-in-first : (h : Letters → Bool) (xs ys : List Letters) → T (some h xs) → T (some h (xs ++ ys))
+in-first : (h : Letters → Bool) (xs ys : List Letters) → T (someWord h xs) → T (someWord h (xs ++ ys))
 in-first h (x ∷ xs) ys t = go (h x) t (in-first h xs ys)
   where
-    go : (b : Bool) → T (elim b [ true ↦ true | false ↦ some h xs ]) → (T (some h xs) → T (some h (xs ++ ys))) → T (elim b [ true ↦ true | false ↦ some h (xs ++ ys) ])
+    go : (b : Bool) → T (elim b [ true ↦ true | false ↦ someWord h xs ]) → (T (someWord h xs) → T (someWord h (xs ++ ys))) → T (elim b [ true ↦ true | false ↦ someWord h (xs ++ ys) ])
     go true t k = tt
     go false t k = k t
 
-in-second : (h : Letters → Bool) (xs ys : List Letters) → T (some h ys) → T (some h (xs ++ ys))
+in-second : (h : Letters → Bool) (xs ys : List Letters) → T (someWord h ys) → T (someWord h (xs ++ ys))
 in-second h [] ys t = t
 in-second h (x ∷ xs) ys t = go (h x) (in-second h xs ys t)
   where
-    go : (b : Bool) → T (some h (xs ++ ys)) → T (elim b [ true ↦ true | false ↦ some h (xs ++ ys) ])
+    go : (b : Bool) → T (someWord h (xs ++ ys)) → T (elim b [ true ↦ true | false ↦ someWord h (xs ++ ys) ])
     go true t = tt
     go false t = t
 
-in-those : (h : Letters → Bool) (c : Bool) (ws : List Letters) → T c → T (some h ws) → T (some h (thoseIf c ws))
+in-those : (h : Letters → Bool) (c : Bool) (ws : List Letters) → T c → T (someWord h ws) → T (someWord h (thoseIf c ws))
 in-those h true ws t u = u
 
-gathered : (h f : Letters → Bool) (k : Letters → List Letters) (zs : List Letters) → ((z : Letters) → T (f z) → T (some h (k z))) → T (some f zs) → T (some h (gather k zs))
-gathered h f k (z ∷ zs) g t = either (f z) (some f zs) (λ u. in-first h (k z) (gather k zs) (g z u)) (λ u. in-second h (k z) (gather k zs) (gathered h f k zs g u)) t
+gathered : (h f : Letters → Bool) (k : Letters → List Letters) (zs : List Letters) → ((z : Letters) → T (f z) → T (someWord h (k z))) → T (someWord f zs) → T (someWord h (gather k zs))
+gathered h f k (z ∷ zs) g t = either (f z) (someWord f zs) (λ u. in-first h (k z) (gather k zs) (g z u)) (λ u. in-second h (k z) (gather k zs) (gathered h f k zs g u)) t
 
 gathered-rows : (h : Letters → Bool) (f : Row → Letters → Bool) (k : Row → Letters → List Letters) (rs : List Row) →
-    ((r : Row) (z : Letters) → T (f r z) → T (some h (k r z))) → T (someRow f rs) → T (some h (gatherRows k rs))
+    ((r : Row) (z : Letters) → T (f r z) → T (someWord h (k r z))) → T (someRow f rs) → T (someWord h (gatherRows k rs))
 gathered-rows h f k (r ∷ rs) g t =
-    either (some (f r) (r .nuclei)) (someRow f rs) (λ u. in-first h (gather (k r) (r .nuclei)) (gatherRows k rs) (gathered h (f r) (k r) (r .nuclei) (g r) u))
+    either (someWord (f r) (r .nuclei)) (someRow f rs) (λ u. in-first h (gather (k r) (r .nuclei)) (gatherRows k rs) (gathered h (f r) (k r) (r .nuclei) (g r) u))
     (λ u. in-second h (gather (k r) (r .nuclei)) (gatherRows k rs) (gathered-rows h f k rs g u)) t
 
 -- so a word that passed the checks is one of the forms
 module _ (w : Letters) (t : ℕ) (s : Passed w t) where
   with-final : (i : Letters) → T (same (initial w) i) → (r : Row) (n : Letters) → T (same (nucleus w) n) → T (takes (initial w) r n (final w)) →
-      (f : Letters) → T (same (final w) f) → T (some (same w) (withFinal i r n f))
+      (f : Letters) → T (same (final w) f) → T (someWord (same w) (withFinal i r n f))
   with-final i si r n sn ok f sf =
       in-those (same w) (takes i r n f) ((i ++ (n ++ f)) ∷ [])
       (subst T (ap₂ (λ (a b : Letters). takes a r n b) (same-cased (initial w) i si) (same-cased (final w) f sf) ∙ takes-cased (capitals (initial w)) i n (capitals (final w)) r f) ok)
@@ -137,7 +137,7 @@ module _ (w : Letters) (t : ℕ) (s : Passed w t) where
       and-i (fit i (firstBase n)) (stands i n && not (joins i n)) (subst T (ap₂ (λ (a b : Letters). fit a (firstBase b)) e d ∙ fit-cased p i n q) (s .suits))
       (and-i (stands i n) (not (joins i n)) (subst T (ap (λ (a : Letters). stands a n) e ∙ stands-cased p i n) ok) (subst (λ (b : Bool). T (not b)) (sym j) tt))
 
-  with-nucleus : (i : Letters) → T (same (initial w) i) → (r : Row) (n : Letters) → T (isThis (initial w) (nucleus w) (final w) r n) → T (some (same w) (withNucleus i r n))
+  with-nucleus : (i : Letters) → T (same (initial w) i) → (r : Row) (n : Letters) → T (isThis (initial w) (nucleus w) (final w) r n) → T (someWord (same w) (withNucleus i r n))
   with-nucleus i si r n h =
       let (sn, ok) = and-if (same (nucleus w) n) (stands (initial w) n && takes (initial w) r n (final w)) h in
       in-those (same w) (mayFollow i n) (gather (withFinal i r n) finals) (may-follow i n si sn (and-l (stands (initial w) n) (takes (initial w) r n (final w)) ok))

@@ -7,7 +7,7 @@ use Rattle.rules.specs.Letters.{Letter, Letters, is, same, oneOf, isNil, firstB
 use Rattle.rules.specs.TakingApart.{plainU, iAndAnother, joins, fit, Row, takes, stands}
 use Rattle.rules.proofs.Tests.{is-letter}
 use Rattle.forms.specs.Forms.{capitals, otherCases, cased}
-use Rattle.forms.proofs.Meets.{and-if, and-so}
+use Rattle.forms.proofs.SomeAndEvery.{and-if, and-so}
 
 pub same-cased : (w z : Letters) → T (same w z) → w ≡ cased (capitals w) z
 same-cased [] [] t = refl

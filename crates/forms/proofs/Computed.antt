@@ -7,7 +7,7 @@ use Rattle.rules.specs.Refusals.{isMode}
 use Rattle.rules.proofs.Typing.{of-modes}
 use Rattle.forms.specs.Forms.{EveryForm}
 use Rattle.forms.proofs.Tests.{wordTest}
-use Rattle.forms.proofs.Sevens.{Pass, together}
+use Rattle.forms.proofs.SevenInitials.{Pass, together}
 
 -- Its bare keys, its marks and its standard list do as they should, in each mode.
 telex-0 : Pass (wordTest telex) 0

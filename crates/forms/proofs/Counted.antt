@@ -11,7 +11,7 @@ use Rattle.rules.specs.TakingApart.{initials, finals, initial, nucleus, final, 
 use Rattle.forms.specs.Forms.{allForms, EveryForm}
 use Rattle.forms.specs.Sizes.{formNumber, ascending, Unlike, no-other, not-this, Different, no-forms, and-these, isValid}
 use Rattle.forms.proofs.Bridge.{byChecks, passed}
-use Rattle.forms.proofs.Sevens.{Pass, together}
+use Rattle.forms.proofs.SevenInitials.{Pass, together}
 
 -- no two are equal: each has its number, and the numbers ascend
 pub ascend : T (ascending 0 allForms)

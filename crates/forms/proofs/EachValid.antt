@@ -6,7 +6,7 @@ use lib.Dec.{T}
 use Rattle.rules.specs.Letters.{Letters, same, oneOf}
 use Rattle.rules.specs.TakingApart.{verdict}
 use Rattle.forms.specs.Forms.{allForms, capitals, inCases, EveryForm}
-use Rattle.forms.proofs.Meets.{meet}
+use Rattle.forms.proofs.SomeAndEvery.{meet}
 use Rattle.forms.proofs.Cases.{same-cased}
 use Rattle.forms.proofs.Bridge.{passed, is-form}
 

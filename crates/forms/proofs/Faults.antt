@@ -14,7 +14,7 @@ use Rattle.letters.specs.Alphabet.{everySign, inAlphabet}
 use Rattle.letters.proofs.Fronts.{of-alphabet}
 use Rattle.rules.specs.CodePoints.{alphabet}
 use Rattle.forms.specs.Syllables.{Syllable}
-use Rattle.forms.proofs.Reading.{allInAlphabet}
+use Rattle.forms.proofs.ReadBack.{allInAlphabet}
 use Rattle.forms.proofs.Signs.{letters-back, tones-back}
 
 abbrev faultIf : Bool → Bool → Bool → ℕ → ℕ

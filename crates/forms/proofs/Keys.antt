@@ -17,10 +17,10 @@ use Rattle.rules.proofs.Tests.{or-l, or-r}
 use Rattle.rules.proofs.Typing.{of-modes}
 use Rattle.forms.specs.Forms.{capitals}
 use Rattle.forms.specs.Syllables.{bareKeys, markKeys, Picks, here, there, Order, done, next}
-use Rattle.forms.proofs.Courses.{Item, letter, mark, itemKeys, course, roleOf, bare}
+use Rattle.forms.proofs.KeyCourses.{Item, letter, mark, itemKeys, course, roleOf, bare}
 use Rattle.rules.proofs.Tests.{is-false}
-use Rattle.forms.proofs.Walks.{itemCapitals}
-use Rattle.forms.proofs.Chains.{six-tones}
+use Rattle.forms.proofs.CoursesTyped.{itemCapitals}
+use Rattle.forms.proofs.MarksAct.{six-tones}
 
 -- a key acts by its lower case
 not-capital : (k : ℕ) → T (isCapital k) → isCapital (k + 32) ≡ false

@@ -10,7 +10,7 @@ use Rattle.rules.specs.WhatComesBack.{keysOf}
 use Rattle.forms.specs.Syllables.{Syllable, openWord, Gives}
 use Rattle.forms.specs.Spelling.{SpelledBack}
 use Rattle.forms.proofs.StandardList.{standard-list, one-list}
-use Rattle.forms.proofs.Reading.{reads-back}
+use Rattle.forms.proofs.ReadBack.{reads-back}
 use Rattle.forms.proofs.Signs.{letters-back, signs-known, tones-back}
 use Rattle.forms.proofs.Faults.{no-fault}
 

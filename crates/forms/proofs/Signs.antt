@@ -18,11 +18,11 @@ use Rattle.forms.specs.Forms.{allForms, every, EveryForm}
 use Rattle.forms.specs.Syllables.{Syllable}
 use Rattle.rules.proofs.Tests.{is-false}
 use Rattle.rules.proofs.TonePlaces.{vowelAt}
-use Rattle.forms.proofs.Meets.{everyRow}
+use Rattle.forms.proofs.SomeAndEvery.{everyRow}
 use Rattle.forms.proofs.EachValid.{each-valid}
 use Rattle.forms.proofs.TableLetters.{eachLetter, each-letter}
-use Rattle.forms.proofs.Chains.{six-tones}
-use Rattle.forms.proofs.Reading.{allInAlphabet}
+use Rattle.forms.proofs.MarksAct.{six-tones}
+use Rattle.forms.proofs.ReadBack.{allInAlphabet}
 
 -- a letter of the alphabet in both cases; a vowel with each tone
 abbrev bothKnown : ℕ → ℕ → ℕ → Bool

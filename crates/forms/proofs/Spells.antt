@@ -19,10 +19,10 @@ use Rattle.rules.specs.declared.WriteAnswer.the-variants.{Wrote}
 use Rattle.rules.proofs.Range.{not-not, twice, not-over}
 use Rattle.rules.proofs.Refused.{NoneHolds, no-rows, not-this, refusal-none}
 use Rattle.forms.specs.Syllables.{Syllable, openWord}
-use Rattle.forms.specs.Spelling.{written}
+use Rattle.forms.specs.Spelling.{writtenKeys}
 use Rattle.forms.proofs.Typings.{few}
 use Rattle.forms.proofs.Keys.{letters-count}
-use Rattle.forms.proofs.Reading.{OneToThree, one, two, three, one-to-three}
+use Rattle.forms.proofs.ReadBack.{OneToThree, one, two, three, one-to-three}
 use Rattle.forms.proofs.Signs.{letters-back}
 
 -- the shown text of a syllable has at most 24 bytes
@@ -65,7 +65,7 @@ pub written-accepts : (m : ℕ) (text out : List ℕ) {n : ℕ} → spell m text
 unfolding spell
 written-accepts m text out e = accepts-rows m text out (refusal-none (spellCall m text out) .0 (wrote (refusal (spellCall m text out)) (keysOf m (read text)) out e))
 
-pub accepts-written : (m : ℕ) (text out : List ℕ) → Accepts m text out → spell m text out ≡ written (keysOf m (read text)) out
+pub accepts-written : (m : ℕ) (text out : List ℕ) → Accepts m text out → spell m text out ≡ writtenKeys (keysOf m (read text)) out
 unfolding spell
 accepts-written m text out a =
     ap (λ (o : Option Refusal). writeOr o (keysOf m (read text)) out)

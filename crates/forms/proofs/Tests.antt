@@ -13,7 +13,7 @@ use Rattle.rules.specs.declared.Role.the-variants.{ToneRole, ShapeRole, StrokeR
 use Rattle.rules.specs.declared.ShapeKey.{ShapeKey}
 use Rattle.rules.specs.declared.ShapeKey.the-variants.{CircumflexOn, Circumflex, Breve, Horn, HornBreve}
 use Rattle.forms.specs.Syllables.{markKeys}
-use Rattle.forms.proofs.Courses.{letter, course, bare, editBy, typesTo}
+use Rattle.forms.proofs.KeyCourses.{letter, course, bare, editBy, typesTo}
 
 abbrev pub isChange : Edit → Bool
 isChange nothing = false

@@ -18,23 +18,23 @@ use Rattle.rules.specs.Speller.{letterKeys, toneKeys, standardKeys}
 use Rattle.rules.specs.Refusals.{all, isMode}
 use Rattle.rules.specs.WhatComesBack.{typed, typeCall, typeOr, typeAll}
 use Rattle.rules.specs.declared.Refusal.{Refusal}
-use Rattle.rules.specs.declared.TypeAnswer.the-variants.{Typed as AllTyped}
+use Rattle.rules.specs.declared.TypeAnswer.the-variants.{AllTyped}
 use Rattle.rules.specs.declared.Role.{Role}
 use Rattle.rules.specs.declared.Decision.the-variants.{Keep}
 use Rattle.rules.proofs.Tests.{or-r}
 use Rattle.rules.proofs.Range.{twice, not-over}
 use Rattle.rules.proofs.Refused.{no-rows, not-this, refusal-none}
 use Rattle.forms.specs.Syllables.{Syllable, openWord, bareKeys, markKeys, Order, Gives}
-use Rattle.forms.proofs.Courses.{letter, course, bare, typesTo}
+use Rattle.forms.proofs.KeyCourses.{letter, course, bare, typesTo}
 use Rattle.forms.proofs.Tests.{chain, bareTest, listTest, wordTest}
 use Rattle.forms.proofs.Bridge.{passed}
 use Rattle.forms.proofs.EachValid.{each-valid}
 use Rattle.forms.proofs.Presses.{pressing, typed-state, pressing-append}
 use Rattle.forms.proofs.Agreeing.{valid-admitted, bare-admitted}
 use Rattle.forms.proofs.AnyCase.{case-admitted}
-use Rattle.forms.proofs.Walks.{types-to, bare-allowed}
+use Rattle.forms.proofs.CoursesTyped.{types-to, bare-allowed}
 use Rattle.forms.proofs.Runs.{runs-pressing, runs-left, any-order}
-use Rattle.forms.proofs.Chains.{toned, toned-runs, Chained, chained, with-tone}
+use Rattle.forms.proofs.MarksAct.{toned, toned-runs, Chained, chained, with-tone}
 use Rattle.forms.proofs.Keys.{roles-lower, order-map, all-append, letters-allowed, tone-allowed, order-allowed, list-count, order-count, bare-course, course-keys, bare-capitals, course-capitals, capitals-bare}
 use Rattle.forms.proofs.Computed.{every-word}
 

@@ -14,7 +14,7 @@ use Rattle.rules.specs.WhatComesBack.{typed, Written, spell}
 use Rattle.forms.specs.Syllables.{Syllable, openWord, here, there, done, next}
 use Rattle.forms.proofs.AnyOrder.{any-order}
 use Rattle.forms.proofs.StandardList.{standard-list}
-use Rattle.forms.proofs.Accepted.{shown-spelled}
+use Rattle.forms.proofs.AcceptedTexts.{shown-spelled}
 
 abbrev Đương : Letters
 Đương = record { base = code "d"; shape = stroke; capital = true } ∷ word "ương"

@@ -21,7 +21,7 @@ pub record SpelledBack (m : ℕ) (w : Letters) (t : ℕ) : Type 0 where
   pub again : Gives m (keysOf m (read (shown (openWord w t)))) w t
 
 -- Of a text and what is read from it: the letters and the tone read are a valid syllable, what is read is that syllable as shown, and the text is its text.
-pub record Accepted (text : List ℕ) (ss : List Sign) : Type 0 where
+pub record AcceptedText (text : List ℕ) (ss : List Sign) : Type 0 where
   pub syllable : Syllable (lettersIn ss) (toneIn ss)
   pub as-shown : ss ≡ signs (lettersIn ss) (toneIn ss)
   pub text-is : text ≡ shown (openWord (lettersIn ss) (toneIn ss))
@@ -34,8 +34,8 @@ pub record ShownBySyllable (text : List ℕ) : Type 0 where
   pub as-shown : text ≡ shown (openWord letters tone)
 
 -- The answer is that keys were written: they stand at the front of the output, and the rest is unchanged.
-abbrev pub written : List ℕ → List ℕ → Written
-written keys out = record { answer = Wrote (length keys); output = atFront keys out }
+abbrev pub writtenKeys : List ℕ → List ℕ → Written
+writtenKeys keys out = record { answer = Wrote (length keys); output = atFront keys out }
 
 unfoldable pub Writes : ℕ → List ℕ → List ℕ → Type 0
 Writes m text out = (n : ℕ) × (spell m text out .answer ≡ Wrote n)

@@ -14,7 +14,7 @@ use Rattle.rules.specs.CodePoints.{shown}
 use Rattle.rules.specs.Speller.{keyOfLetter, keysAfter}
 use Rattle.rules.specs.Refusals.{all}
 use Rattle.rules.specs.WhatComesBack.{typed, typeAll}
-use Rattle.rules.specs.declared.TypeAnswer.the-variants.{Typed as AllTyped}
+use Rattle.rules.specs.declared.TypeAnswer.the-variants.{AllTyped}
 use Rattle.rules.specs.declared.Decision.the-variants.{Keep}
 
 -- letters, of any number and in any case, and a tone: the verdict is 0, and the tone is one of the six

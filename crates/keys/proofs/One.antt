@@ -3,6 +3,8 @@ use mathlib.Core.Path.{_≡_, sym, _∙_}
 use contract.Lifetimes.{Lfts}
 use denote.Triple.Entry.{Args, Res}
 use denote.Triple.Clauses.{AtExit}
+use Rattle.keys.proofs.is_mode as is-mode
+use Rattle.keys.proofs.is_mode.Reads as is-mode-reads
 use Rattle.keys.proofs.is_small as is-small
 use Rattle.keys.proofs.is_small.Reads as is-small-reads
 use Rattle.keys.proofs.is_digit as is-digit
@@ -13,6 +15,10 @@ use Rattle.keys.proofs.letter_of_key as letter-of-key
 use Rattle.keys.proofs.letter_of_key.Reads as letter-of-key-reads
 use Rattle.keys.proofs.role as role
 use Rattle.keys.proofs.role.Reads as role-reads
+
+pub is-mode-one : (κs : Lfts 0) (a : Args is-mode.signature κs) (r r′ : Res is-mode.signature κs) (e e′ : AtExit is-mode.ended κs)
+    → is-mode-reads.Post κs a r e → is-mode-reads.Post κs a r′ e′ → r ≡ r′
+is-mode-one κs a r r′ e e′ p p′ = p ∙ sym p′
 
 pub is-small-one : (κs : Lfts 0) (a : Args is-small.signature κs) (r r′ : Res is-small.signature κs) (e e′ : AtExit is-small.ended κs)
     → is-small-reads.Post κs a r e → is-small-reads.Post κs a r′ e′ → r ≡ r′

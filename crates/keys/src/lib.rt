@@ -2,6 +2,7 @@
 ghost use mathlib.Core.Path.{_≡_};
 ghost use Rattle.rules.specs.TheWord.{number};
 ghost use Rattle.rules.specs.KeyRoles.{isSmall, isCapital, isDigit, isKey, lower as lowerOf, letterOfKey, roleIn, telexRoles, vniRoles, role as roleOf};
+ghost use Rattle.rules.specs.Refusals.{isMode};
 use rules::ACUTE;
 use rules::CAPITAL;
 use rules::DOT;
@@ -12,6 +13,13 @@ use rules::ShapeKey;
 use rules::TILDE;
 use rules::ToneKey;
 use rules::Word;
+
+// The modes: Telex and VNI.
+pub fn is_mode(mode: u8) -> bool
+    ensures { λ r. ⌜ r ≡ isMode mode ⌝ }
+{
+    (mode == Word::TELEX) | (mode == Word::VNI)
+}
 
 pub fn is_small(key: u8) -> bool
     ensures { λ r. ⌜ r ≡ isSmall key ⌝ }

@@ -10,7 +10,7 @@ use mir.Val.{boolByte}
 use lib.ListN.{length, take, drop, set, length-set, length-drop, drop-of-length-le}
 use lib.Seq.{take-length, take-at, drop-at}
 use Rattle.rules.specs.declared.Word.{Word}
-use Rattle.layout.specs.Places.{pairs, markByte, byte, isLong, isMark, noRecord, recordIf, asRecord, writtenIf, written}
+use Rattle.layout.specs.Places.{pairs, markByte, byte, isLong, isMark, noRecord, recordIf, asRecord, recordWrittenIf, recordWritten}
 
 -- a record with another mark and other arrays
 abbrev pub withParts : Word → Bool → List ℕ → List ℕ → Word
@@ -81,9 +81,9 @@ pub length-headed : (w : Word) (l : List ℕ) → length (headed w l) ≡ length
 length-headed w l = simp length-set
 
 module _ (w : Word) (old : List ℕ) where
-  pub nothing-written : (length old ≡ 104 → ⊥) → (false ≡ isLong old) × (old ≡ written w old)
-  unfolding written
-  nothing-written h = let e = ne-eqb (length old) 104 h in (sym e, sym (ap (λ (b : Bool). writtenIf b w old) e))
+  pub nothing-written : (length old ≡ 104 → ⊥) → (false ≡ isLong old) × (old ≡ recordWritten w old)
+  unfolding recordWritten
+  nothing-written h = let e = ne-eqb (length old) 104 h in (sym e, sym (ap (λ (b : Bool). recordWrittenIf b w old) e))
 
   module _ (long : length old ≡ 104) (keys : length (w .keys) ≡ 32) where
     abbrev head : List ℕ
@@ -97,8 +97,8 @@ module _ (w : Word) (old : List ℕ) where
     with-keys = ap (λ (l : List ℕ). putMid 8 32 l (w .keys)) head-so
 
     pub all-written : (ks ps : List ℕ) → ks ≡ w .keys → ps ≡ pairs (w .letters) →
-        (true ≡ isLong old) × (putMid 40 64 (putMid 8 32 (headed w old) ks) ps ≡ written w old)
-    unfolding written
+        (true ≡ isLong old) × (putMid 40 64 (putMid 8 32 (headed w old) ks) ps ≡ recordWritten w old)
+    unfolding recordWritten
     all-written ks ps p q =
         let e = eq-eqb (length old) 104 long in
         let rest = drop 32 (drop 8 old) in
@@ -110,5 +110,5 @@ module _ (w : Word) (old : List ℕ) where
               (ap (drop 64) (drop-at (head ++ w .keys) rest 40 front) ∙ drop-of-length-le rest back) ∙
               ap (λ (x : List ℕ). (head ++ w .keys) ++ x) (append-nil (pairs (w .letters))) ∙
               ap (λ (m : ℕ). w .mode ∷ w .count ∷ w .tone ∷ m ∷ w .typed ∷ w .acted ∷ w .undone ∷ w .appended ∷ (w .keys ++ pairs (w .letters))) (mark-byte (w .closed)) ∙
-              sym (ap (λ (b : Bool). writtenIf b w old) e),
+              sym (ap (λ (b : Bool). recordWrittenIf b w old) e),
         )

@@ -7,7 +7,7 @@ use lib.ListN.{length, getD, take, drop}
 use Rattle.rules.specs.Letters.{telex}
 use Rattle.rules.specs.TheWord.{newWord}
 use Rattle.rules.specs.declared.Word.{Word}
-use Rattle.layout.specs.declared.Reading.{Reading}
+use Rattle.layout.specs.declared.RecordRead.{RecordRead}
 
 -- numbers as two bytes each, low byte first; and read back
 abbrev pub pairs : List ℕ → List ℕ
@@ -54,20 +54,20 @@ isLong bs = eqb (length bs) 104
 abbrev pub isMark : ℕ → Bool
 isMark n = eqb n 0 || eqb n 1
 
-abbrev pub noRecord : Reading
+abbrev pub noRecord : RecordRead
 noRecord = record { is_record = false; word = newWord telex }
 
-abbrev pub recordIf : Bool → List ℕ → Reading
+abbrev pub recordIf : Bool → List ℕ → RecordRead
 recordIf true bs = record { is_record = true; word = wordIn bs }
 recordIf false bs = noRecord
 
-unfoldable pub asRecord : List ℕ → Reading
+unfoldable pub asRecord : List ℕ → RecordRead
 asRecord bs = recordIf (isLong bs && isMark (byte 3 bs)) bs
 
 -- a buffer of 104 bytes with a record written into it; another is left as it was
-abbrev pub writtenIf : Bool → Word → List ℕ → List ℕ
-writtenIf true w old = asBytes w
-writtenIf false w old = old
+abbrev pub recordWrittenIf : Bool → Word → List ℕ → List ℕ
+recordWrittenIf true w old = asBytes w
+recordWrittenIf false w old = old
 
-unfoldable pub written : Word → List ℕ → List ℕ
-written w old = writtenIf (isLong old) w old
+unfoldable pub recordWritten : Word → List ℕ → List ℕ
+recordWritten w old = recordWrittenIf (isLong old) w old

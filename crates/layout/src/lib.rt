@@ -4,21 +4,21 @@
 ghost use mathlib.Core.Path.{_≡_};
 ghost use Prim.Native.Nat.{_+_, _*_, _/_, _%_};
 ghost use lib.ListN.{length};
-ghost use Rattle.layout.specs.Places.{pairs, numbers, isLong, noRecord, asRecord, written};
+ghost use Rattle.layout.specs.Places.{pairs, numbers, isLong, noRecord, asRecord, recordWritten};
 use rules::Word;
 
 pub const LENGTH: usize = 104;
 
 // What bytes are: a record or none, and the word then; a new Telex word where they are none.
-pub struct Reading {
+pub struct RecordRead {
     pub is_record: bool,
     pub word: Word,
 }
 
-fn no_record() -> Reading
+fn no_record() -> RecordRead
     ensures { λ r. ⌜ r ≡ noRecord ⌝ }
 {
-    Reading {
+    RecordRead {
         is_record: false,
         word: Word::telex(),
     }
@@ -70,7 +70,7 @@ fn put_letters(letters: &[u16], out: &mut [u8])
 }
 
 // The record that bytes are. None, with a new Telex word, where they are not 104 or the mark is neither 0 nor 1.
-pub fn read(buffer: &[u8]) -> Reading
+pub fn read(buffer: &[u8]) -> RecordRead
     ensures { λ r. ⌜ r ≡ asRecord (now (buffer .entry)) ⌝ }
 {
     if buffer.len() != LENGTH {
@@ -83,7 +83,7 @@ pub fn read(buffer: &[u8]) -> Reading
     let mut keys = [0; 32];
     bytes::copy(&buffer[8..40], &mut keys);
     let letters = letters_in(&buffer[40..LENGTH]);
-    Reading {
+    RecordRead {
         is_record: true,
         word: Word {
             mode: buffer[0],
@@ -102,7 +102,7 @@ pub fn read(buffer: &[u8]) -> Reading
 
 // The record's bytes. False, and nothing written, where there is not room for exactly 104.
 pub fn write(w: Word, buffer: &mut [u8]) -> bool
-    ensures { λ r. ⌜ (r ≡ isLong (now (buffer .entry))) × (now (buffer .exit) ≡ written w (now (buffer .entry))) ⌝ }
+    ensures { λ r. ⌜ (r ≡ isLong (now (buffer .entry))) × (now (buffer .exit) ≡ recordWritten w (now (buffer .entry))) ⌝ }
 {
     if buffer.len() != LENGTH {
         return false;

@@ -16,7 +16,7 @@ use Rattle.rules.specs.Speller.{starts, Front, noLetter, aLetter, frontIn, lett
 use Rattle.letters.specs.declared.LetterRead.{LetterRead}
 use Rattle.letters.specs.declared.LetterRead.the-variants.{Letter, NoLetter}
 use Rattle.letters.specs.Alphabet.{everySign, inAlphabet}
-use Rattle.letters.specs.Reading.{readOf, readAt}
+use Rattle.letters.specs.LettersRead.{readOf, readAt}
 use Rattle.letters.specs.Decoding.{oneByte, twoBytes, threeBytes, thirdOf, secondOf, decoded, readAs}
 use Rattle.letters.proofs.Fronts.{of-alphabet, decodes-back}
 use Rattle.letters.proofs.Stands.{Stands, none-there, one-there, stands-one, stands-two, stands-three}

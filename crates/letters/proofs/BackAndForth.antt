@@ -15,8 +15,8 @@ use Rattle.rules.specs.Speller.{Front, letterAt}
 use Rattle.letters.specs.declared.LetterRead.{LetterRead}
 use Rattle.letters.specs.declared.LetterRead.the-variants.{Letter}
 use Rattle.letters.specs.Alphabet.{everySign, sameSign, inAlphabet, countSigns}
-use Rattle.letters.specs.Writing.{isLetter, toneStands, written}
-use Rattle.letters.specs.Reading.{readOf, readAt}
+use Rattle.letters.specs.Writing.{isLetter, toneStands, letterBytes}
+use Rattle.letters.specs.LettersRead.{readOf, readAt}
 use Rattle.rules.proofs.Tests.{is-true}
 use Rattle.letters.proofs.Fronts.{sign-eq, of-alphabet, decodes-back}
 use Rattle.letters.proofs.Agrees.{starts-is, Shown, absent, present, shown, agree}
@@ -45,8 +45,8 @@ writable s =
 all-writable : T (everySign writable alphabet)
 all-writable = tt
 
-pub is-written : (s : Sign) → T (inAlphabet s) → written (number (s .letter)) (s .tone) ≡ utf8 (point s)
-unfolding written
+pub is-written : (s : Sign) → T (inAlphabet s) → letterBytes (number (s .letter)) (s .tone) ≡ utf8 (point s)
+unfolding letterBytes
 is-written s k =
     let w = of-alphabet writable all-writable s k in
     let n : ℕ = number (s .letter) in
@@ -59,10 +59,10 @@ is-written s k =
 abbrev letterRead : Sign → LetterRead
 letterRead s = Letter (number (s .letter)) (s .tone) (length (utf8 (point s)))
 
-pub reads-back : (s : Sign) (before behind : List ℕ) → T (inAlphabet s) → readAt (before ++ (written (number (s .letter)) (s .tone) ++ behind)) (length before) ≡ letterRead s
+pub reads-back : (s : Sign) (before behind : List ℕ) → T (inAlphabet s) → readAt (before ++ (letterBytes (number (s .letter)) (s .tone) ++ behind)) (length before) ≡ letterRead s
 unfolding readAt
 reads-back s before behind k =
-    ap (λ (bs : List ℕ). readOf (letterAt bs)) (drop-append-seam before (written (number (s .letter)) (s .tone) ++ behind))
+    ap (λ (bs : List ℕ). readOf (letterAt bs)) (drop-append-seam before (letterBytes (number (s .letter)) (s .tone) ++ behind))
     ∙ ap (λ (u : List ℕ). readOf (letterAt (u ++ behind))) (is-written s k)
     ∙ ap readOf (sym (agree (utf8 (point s) ++ behind)) ∙ decodes-back s behind k)
 

@@ -17,7 +17,7 @@ use Rattle.rules.specs.CodePoints.{vowels, sign, smallPoint, capitalPoint, inCa
 use Rattle.rules.specs.Refusals.{baseAllowed, shapeCarried, noCapitalDigit}
 use Rattle.rules.proofs.Tests.{is-true}
 use Rattle.letters.specs.Rows.{rowIn, rowOf, pointsIn, pointsOf}
-use Rattle.letters.specs.Writing.{isLetter, toneStands, isShaped, pointOr, bytesIf, written}
+use Rattle.letters.specs.Writing.{isLetter, toneStands, isShaped, pointOr, bytesIf, letterBytes}
 use Rattle.keys.proofs.Bools.{first, second, either, same-bool}
 use Rattle.letters.proofs.Tables.{eachBelow, below}
 use Rattle.letters.proofs.Points.{Rowed, rowed-at, small-number, small-row, in-row, in-no-row}
@@ -177,8 +177,8 @@ above n t e h = go (letter n .capital) (smallPoint vowels (letter n) t) (letter-
     go true p l = ne-eqb (capitalPoint p) 0 (λ z. omega (arith, low p (ltb p 0x100) l))
     go false p l = ne-eqb p 0 (omega arith)
 
-pub point-bytes : (n t : ℕ) → bytesIf (pointOr n t) ≡ written n t
-unfolding pointOr written
+pub point-bytes : (n t : ℕ) → bytesIf (pointOr n t) ≡ letterBytes n t
+unfolding pointOr letterBytes
 point-bytes n t = go (isLetter vni n) (leb t dot) (eqb t noTone || vowel (letter n .base)) refl refl
   where
     go : (p q r : Bool) → isLetter vni n ≡ p → leb t dot ≡ q
@@ -195,17 +195,17 @@ isOwn n (a ∷ []) = eqb n a
 isOwn n (a ∷ b ∷ bs) = false
 
 abbrev bare : ℕ → Bool
-bare n = not (isSmall n) || isOwn n (written n noTone)
+bare n = not (isSmall n) || isOwn n (letterBytes n noTone)
 
 bare-all : T (eachBelow bare 128)
-unfolding written
+unfolding letterBytes
 bare-all = tt
 
 pub fits-a-byte : (n : ℕ) → isSmall n ≡ true → n < 128
 fits-a-byte n e = omega (arith, leb-true n (code "z") (second (leb (code "a") n) (leb n (code "z")) e))
 
-pub own-byte : (n : ℕ) → isSmall n ≡ true → n ∷ [] ≡ written n noTone
-own-byte n e = go (written n noTone) (either (isSmall n) (isOwn n (written n noTone)) (below bare 128 bare-all n (fits-a-byte n e)) e)
+pub own-byte : (n : ℕ) → isSmall n ≡ true → n ∷ [] ≡ letterBytes n noTone
+own-byte n e = go (letterBytes n noTone) (either (isSmall n) (isOwn n (letterBytes n noTone)) (below bare 128 bare-all n (fits-a-byte n e)) e)
   where
     go : (bs : List ℕ) → T (isOwn n bs) → n ∷ [] ≡ bs
     go [] i = absurd i

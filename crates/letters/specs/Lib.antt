@@ -1,5 +1,5 @@
 pub mod Alphabet
 pub mod Rows
 pub mod Writing
-pub mod Reading
+pub mod LettersRead
 pub mod Decoding

@@ -22,8 +22,8 @@ abbrev pub isShaped : ℕ → Bool
 isShaped n = elem n (map number (word "ăâêôơưđ"))
 
 -- VNI digits are letters of a word, shown as themselves.
-unfoldable pub written : ℕ → ℕ → List ℕ
-written n t = elim (isLetter vni n && toneStands n t) [ true ↦ utf8 (point (sign (letter n) t)) | false ↦ [] ]
+unfoldable pub letterBytes : ℕ → ℕ → List ℕ
+letterBytes n t = elim (isLetter vni n && toneStands n t) [ true ↦ utf8 (point (sign (letter n) t)) | false ↦ [] ]
 
 -- the code point, 0 where there is none
 unfoldable pub pointOr : ℕ → ℕ → ℕ

@@ -5,7 +5,7 @@ ghost use Rattle.rules.specs.TheWord.{letter as letterOfNumber};
 ghost use Rattle.rules.specs.KeyRoles.{isSmall, isDigit};
 ghost use Rattle.rules.specs.CodePoints.{capitalPoint, inCase};
 ghost use Rattle.letters.specs.Decoding.{followsOn, oneByte, InTwo, pointOfTwo, twoBytes, InThree, pointOfThree, threeBytes, readAs};
-ghost use Rattle.letters.specs.Reading.{readAt};
+ghost use Rattle.letters.specs.LettersRead.{readAt};
 ghost use Rattle.letters.specs.Writing.{isLetter, isShaped, pointOr};
 
 mod vowels;
@@ -85,7 +85,7 @@ fn in_case(letter: u16, small: u16) -> u16
     requires { ⌜ 32 ≤ small ⌝ }
     ensures { λ r. ⌜ r ≡ inCase (letterOfNumber letter .capital) small ⌝ }
 {
-    if letter / CAPITAL % 2 == 1 {
+    if rules::is_capital(letter) {
         capital_point(small)
     } else {
         small
@@ -116,7 +116,7 @@ pub fn point(letter: u16, tone: u8) -> u16
     if small == D_STROKE {
         return in_case(letter, D_STROKE_POINT);
     }
-    in_case(letter, letter % 256)
+    in_case(letter, rules::base(letter) as u16)
 }
 
 // A byte that goes on a longer sequence of UTF-8.

@@ -15,26 +15,23 @@ use Rattle.rules.specs.CodePoints.{shown}
 use Rattle.rules.specs.Decision.{decision, handedBack}
 use Rattle.rules.specs.Refusals.{outOfRange, refusal}
 use Rattle.rules.specs.WhatComesBack.{typeCall, typeOr, typeAll}
-use Rattle.rules.specs.Drill.{decimal, orHyphen, placeColumn, decisionColumn, columns, wordLine, refusedLine, lineOr, keysLine}
+use Rattle.rules.specs.Drill.{decimal, orHyphen, placeColumn, decisionColumn, columns, wordLine, refusedLine, lineOr, keysLine, modeOf}
 use Rattle.rules.specs.SpellProgram.{textCall, spelledOr, spelledLine}
 use Rattle.rules.specs.declared.Word.{Word}
 use Rattle.rules.specs.declared.Refusal.{Refusal}
 use Rattle.rules.specs.declared.Decision.{Decision}
 use Rattle.rules.specs.declared.Decision.the-variants.{Keep, Restore}
-use Rattle.rules.specs.declared.TypeAnswer.the-variants.{Typed}
+use Rattle.rules.specs.declared.TypeAnswer.the-variants.{AllTyped}
 use Rattle.rules.proofs.TextFits.{text-fits}
-use Rattle.rules.proofs.Answering.{typed-in-range}
+use Rattle.rules.proofs.NotRefused.{typed-in-range}
 use Rattle.lines.specs.Appending.{mostInLine}
 use Rattle.lines.specs.Programs.{answerOf}
-use Rattle.lines.specs.Starting.{startOf}
 use Rattle.lines.specs.declared.Program.{Program}
 use Rattle.lines.specs.declared.Program.the-variants.{Drill, Spell}
-use Rattle.lines.specs.declared.Start.{Start}
-use Rattle.lines.specs.declared.Start.the-variants.{InMode, Other}
 use Rattle.lines.proofs.Columns.{hyphen-long, handed-long, decimal-long, place-long}
 use Rattle.lines.proofs.Words.{few-typed, typed-keys}
 use Rattle.lines.proofs.Spelled.{few-spelled}
-use Rattle.lines.proofs.Starts.{byStart, started}
+use Rattle.lines.proofs.Starts.{restOf, by-rest}
 
 -- columns that are short together make a short line
 module _ (a b c : List ℕ) (x y z : ℕ) where
@@ -73,7 +70,7 @@ keys-fit m ks = go (refusal (typeCall m ks)) refl
     go : (o : Option Refusal) → refusal (typeCall m ks) ≡ o → length (keysLine m ks) ≤ mostInLine
     go (some x) e = subst (λ (o : Option Refusal). length (lineOr o m ks) ≤ mostInLine) (sym e) (refused-fits x)
     go none e =
-        let typed : typeAll m ks .answer ≡ Typed = ap (λ (o : Option Refusal). typeOr o m ks .answer) e in
+        let typed : typeAll m ks .answer ≡ AllTyped = ap (λ (o : Option Refusal). typeOr o m ks .answer) e in
         subst (λ (l : List ℕ). length l ≤ mostInLine) (typed-keys m ks typed) (word-fits (typeAll m ks .word) (typed-in-range m ks typed))
 
 spelled-fits : (m : ℕ) (text : List ℕ) → length (spelledLine m text) ≤ mostInLine
@@ -83,10 +80,9 @@ spelled-fits m text = go (refusal (textCall m text)) refl
     go (some x) e = subst (λ (o : Option Refusal). length (spelledOr o m text) ≤ mostInLine) (sym e) (refused-fits x)
     go none e = subst (λ (o : Option Refusal). length (spelledOr o m text) ≤ mostInLine) (sym e) (simp length-append (omega (arith, few-spelled m text e)))
 
-started-fits : (p : Program) (s : Start) (rest : List ℕ) → length (byStart p s rest) ≤ mostInLine
-started-fits Drill (InMode m) rest = keys-fit m rest
-started-fits Spell (InMode m) rest = spelled-fits m rest
-started-fits p Other rest = refused-fits (record { number = 1; value = 0 })
+rest-fits : (p : Program) (m : ℕ) (rest : List ℕ) → length (restOf p m rest) ≤ mostInLine
+rest-fits Drill m rest = keys-fit m rest
+rest-fits Spell m rest = spelled-fits m rest
 
 pub answer-fits : (p : Program) (line : List ℕ) → length (answerOf p line) ≤ mostInLine
-answer-fits p line = subst (λ (l : List ℕ). length l ≤ mostInLine) (started p line) (started-fits p (startOf line) (drop 2 line))
+answer-fits p line = subst (λ (l : List ℕ). length l ≤ mostInLine) (by-rest p line) (rest-fits p (modeOf line) (drop 2 line))

@@ -11,7 +11,7 @@ use lib.ListN.{length, drop, set, length-append, length-drop}
 use lib.Ieee.Fits.{and-l, and-r}
 use Rattle.rules.specs.Letters.{plain, noTone}
 use Rattle.rules.specs.TheWord.{mostBytes, atFront}
-use Rattle.rules.specs.TakingApart.{Check, firstThatHolds, oneToFive, sixAndSeven, verdict}
+use Rattle.rules.specs.TakingApart.{initial, nucleus, final, listed, Check, firstThatHolds, oneToFive, sixAndSeven, verdict}
 use Rattle.rules.specs.CodePoints.{Sign, point, utf8, signs}
 use Rattle.rules.specs.Speller.{Front, noLetter, aLetter, Reading, stuckAt, reading, andThen, moreBytes, goOn, readFrom, read, letterAt, lettersIn, tonesIn, toneIn, twoTones, sameTones, fault, keysAfter, letterKeys, toneKeys, standardKeys, awaitsO, shapeKey, toneKey}
 use Rattle.rules.specs.Refusals.{isMode, isStuck, stuckPlace, faultOf, refusal, table}
@@ -108,7 +108,7 @@ unfolding verdict
 fault-small ss =
     let w = lettersIn ss in
     let t = toneIn ss in
-    go (twoTones (tonesIn ss)) (verdict w t) (first-small (oneToFive w ++ sixAndSeven w t) tt) (eqb (verdict w t) 0) (sameTones ss (signs w t))
+    go (twoTones (tonesIn ss)) (verdict w t) (first-small (oneToFive w ++ sixAndSeven (listed (initial w) (nucleus w) (final w)) w t) tt) (eqb (verdict w t) 0) (sameTones ss (signs w t))
   where
     go : (b : Bool) (v : ℕ) → v ≤ 9 → (c d : Bool) → elim b [ true ↦ 8 | false ↦ elim c [ false ↦ v | true ↦ elim d [ true ↦ 0 | false ↦ 9 ] ] ] ≤ 9
     go true v h c d = lit≤ tt

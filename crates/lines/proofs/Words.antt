@@ -20,13 +20,13 @@ use Rattle.rules.specs.WhatComesBack.{typeAll}
 use Rattle.rules.specs.Drill.{decimal, orHyphen, placeColumn, decisionColumn, columns, wordLine, refusedLine, lineOr, keysLine}
 use Rattle.rules.specs.declared.Word.{Word}
 use Rattle.rules.specs.declared.Refusal.{Refusal}
-use Rattle.rules.specs.declared.TypeAnswer.the-variants.{Typed as AllTyped}
+use Rattle.rules.specs.declared.TypeAnswer.the-variants.{AllTyped}
 use Rattle.rules.specs.declared.TypeAnswer.the-variants.{Refused as TypeRefused}
 use Rattle.rules.specs.declared.Decision.{Decision}
 use Rattle.rules.specs.declared.Place.{Place}
 use Rattle.rules.specs.declared.Place.the-variants.{At, Nowhere}
 use Rattle.rules.proofs.StaysInRange.{read-front}
-use Rattle.rules.proofs.Answering.{refused-as, not-refused, typed-word}
+use Rattle.rules.proofs.NotRefused.{refused-as, not-refused, typed-word}
 use Rattle.rules.proofs.TonePlaces.{place-in-word}
 use Rattle.rules.proofs.Range.{in-range, few-letters}
 use Rattle.word.specs.Deciding.{decidedBy}

@@ -3,15 +3,14 @@ ghost use mathlib.Core.Path.{_≡_};
 ghost use mathlib.Core.Bool.{false};
 ghost use mathlib.Core.List.{[], _∷_, _++_};
 ghost use Prim.Native.Nat.{_+_, _≤_, _<_};
-ghost use lib.ListN.{length};
+ghost use lib.ListN.{length, drop};
 ghost use Rattle.rules.specs.TheWord.{mostKeys, mostBytes, wordOf};
 ghost use Rattle.rules.specs.Decision.{handedBack};
 ghost use Rattle.rules.specs.Refusals.{outOfRange};
-ghost use Rattle.rules.specs.Drill.{decimal, orHyphen, placeColumn, decisionColumn, columns, wordLine, refusedLine, keysLine};
+ghost use Rattle.rules.specs.Drill.{decimal, orHyphen, placeColumn, decisionColumn, columns, wordLine, refusedLine, keysLine, modeOf};
 ghost use Rattle.rules.specs.SpellProgram.{spelledLine};
 ghost use Rattle.lines.specs.Appending.{Appends, mostInLine, SmallPlace};
 ghost use Rattle.lines.specs.Programs.{answerOf, lineAnswer};
-ghost use Rattle.lines.specs.Starting.{startOf};
 use rules::Decision;
 use rules::Place;
 use rules::Refusal;
@@ -29,11 +28,8 @@ pub enum Program {
     Spell,
 }
 
-// How a line starts: T or V and a space name a mode; any other start names none.
-enum Start {
-    InMode(u8),
-    Other,
-}
+// A number that no mode has: what stands for the mode of a line that names none.
+const NO_MODE: u8 = 2;
 
 // A part and the byte that ends its column, from a place of the text on; the place behind them.
 fn column(text: &mut [u8], at: usize, part: &[u8], end: u8) -> usize
@@ -201,38 +197,42 @@ fn spelled_line(text: &mut [u8], mode: u8, syllable: &[u8]) -> usize
     }
 }
 
-fn start_of(line: &[u8]) -> Start
-    ensures { λ r. ⌜ r ≡ startOf (now (line .entry)) ⌝ }
+// How a line starts: T or V and a space name a mode; any other start names none.
+fn mode_of(line: &[u8]) -> u8
+    ensures { λ r. ⌜ r ≡ modeOf (now (line .entry)) ⌝ }
 {
     if line.len() < 2 {
-        return Start::Other;
+        return NO_MODE;
     }
     if line[1] != SPACE {
-        return Start::Other;
+        return NO_MODE;
     }
     if line[0] == b'T' {
-        return Start::InMode(Word::TELEX);
+        return Word::TELEX;
     }
     if line[0] == b'V' {
-        return Start::InMode(Word::VNI);
+        return Word::VNI;
     }
-    Start::Other
+    NO_MODE
+}
+
+// Where the rest of a line begins, behind the mode and the space.
+fn behind_start(line: &[u8]) -> usize
+    ensures { λ r. ⌜ (r ≤ length (now (line .entry))) × (drop r (now (line .entry)) ≡ drop 2 (now (line .entry))) ⌝ }
+{
+    if line.len() < 2 {
+        return line.len();
+    }
+    2
 }
 
 fn line_text(program: Program, text: &mut [u8], line: &[u8]) -> usize
     requires { ⌜ mostInLine ≤ length (now text) ⌝ }
     ensures { λ r. ⌜ Appends (now (text .entry)) (now (text .exit)) 0 r (answerOf program (now (line .entry))) ⌝ }
 {
-    let Start::InMode(mode) = start_of(line) else {
-        return refused_line(
-            text,
-            Refusal {
-                number: 1,
-                value: 0,
-            },
-        );
-    };
-    let rest = &line[2..];
+    let mode = mode_of(line);
+    let from = behind_start(line);
+    let rest = &line[from..];
     match program {
         Program::Drill => keys_line(text, mode, rest),
         Program::Spell => spelled_line(text, mode, rest),

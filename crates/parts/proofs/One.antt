@@ -3,20 +3,10 @@ use mathlib.Core.Path.{_≡_, sym, _∙_}
 use contract.Lifetimes.{Lfts}
 use denote.Triple.Entry.{Args, Res}
 use denote.Triple.Clauses.{AtExit}
-use Rattle.parts.proofs.base as base
-use Rattle.parts.proofs.base.Reads as base-reads
-use Rattle.parts.proofs.shape as shape
-use Rattle.parts.proofs.shape.Reads as shape-reads
 use Rattle.parts.proofs.apart as apart
 use Rattle.parts.proofs.apart.Reads as apart-reads
 use Rattle.parts.proofs.tone_place as tone-place
 use Rattle.parts.proofs.tone_place.Reads as tone-place-reads
-
-pub base-one : (κs : Lfts 0) (a : Args base.signature κs) (r r′ : Res base.signature κs) (e e′ : AtExit base.ended κs) → base-reads.Post κs a r e → base-reads.Post κs a r′ e′ → r ≡ r′
-base-one κs a r r′ e e′ p p′ = p ∙ sym p′
-
-pub shape-one : (κs : Lfts 0) (a : Args shape.signature κs) (r r′ : Res shape.signature κs) (e e′ : AtExit shape.ended κs) → shape-reads.Post κs a r e → shape-reads.Post κs a r′ e′ → r ≡ r′
-shape-one κs a r r′ e e′ p p′ = p ∙ sym p′
 
 pub apart-one : (κs : Lfts 1) (a : Args apart.signature κs) (r r′ : Res apart.signature κs) (e e′ : AtExit apart.ended κs) → apart-reads.Post κs a r e → apart-reads.Post κs a r′ e′ → r ≡ r′
 apart-one κs a r r′ e e′ p p′ = p ∙ sym p′

@@ -20,25 +20,11 @@ const SECOND: usize = 1;
 
 const MIDDLE: usize = 1;
 
-// A letter's base.
-pub fn base(x: u16) -> u8
-    ensures { λ r. ⌜ r ≡ letter x .base ⌝ }
-{
-    (x % 256) as u8
-}
-
-// A letter's shape.
-pub fn shape(x: u16) -> u8
-    ensures { λ r. ⌜ r ≡ letter x .shape ⌝ }
-{
-    (x / 256 % 8) as u8
-}
-
 // Vowel letters: a e i o u y in any shape.
 fn is_vowel(x: u16) -> bool
     ensures { λ r. ⌜ r ≡ vowel (letter x .base) ⌝ }
 {
-    let b = base(x);
+    let b = rules::base(x);
     (b == b'a') | ((b == b'e') | ((b == b'i') | ((b == b'o') | ((b == b'u') | (b == b'y')))))
 }
 
@@ -71,7 +57,7 @@ fn joins(before: &[u16], run: &[u16]) -> bool
     if x == b'q' as u16 {
         return run[0] % CAPITAL == b'u' as u16;
     }
-    (x == b'g' as u16) & ((run[0] % 256 == b'i' as u16) & (run.len() != 1))
+    (x == b'g' as u16) & ((rules::base(run[0]) == b'i') & (run.len() != 1))
 }
 
 // Where the initial, the nucleus and the final end (`final` is a reserved word). Each begins where the one before it ends,
@@ -127,7 +113,7 @@ fn place_within(nuc: &[u16], ends: bool) -> usize
     let mut i = nuc.len();
     while 0 < i {
         i -= 1;
-        if shape(nuc[i]) != PLAIN {
+        if rules::shape(nuc[i]) != PLAIN {
             return i;
         }
     }

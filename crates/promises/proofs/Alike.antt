@@ -17,7 +17,7 @@ use Rattle.rules.specs.declared.WriteAnswer.the-variants.{Wrote, Refused}
 use Rattle.rules.specs.declared.PlaceAnswer.the-variants.{Found}
 use Rattle.rules.specs.declared.VerdictAnswer.the-variants.{Judged}
 use Rattle.rules.specs.declared.DecisionAnswer.the-variants.{Decided}
-use Rattle.rules.proofs.Answering.{finds, judges, decides}
+use Rattle.rules.proofs.NotRefused.{finds, judges, decides}
 use Rattle.output.specs.Front.{put}
 
 -- a record in range shows its state

@@ -7,7 +7,7 @@ use Rattle.rules.specs.CodePoints.{shown}
 use Rattle.rules.specs.Refusals.{outOfRange}
 use Rattle.rules.specs.WhatComesBack.{typed, Written, commitAnswer}
 use Rattle.rules.specs.declared.TypeAll.{TypeAll}
-use Rattle.rules.proofs.Answering.{shows, typed-in-range, typed-word}
+use Rattle.rules.proofs.NotRefused.{shows, typed-in-range, typed-word}
 use Rattle.rules.proofs.StaysInRange.{read-front}
 use Rattle.rules.specs.HandedBack.{HandedBack}
 use Rattle.rules.proofs.Commits.{shown-is-granted, keys-or-kept-text}

@@ -8,7 +8,7 @@ use borrow.Author.Tests.{le-ltb}
 use lib.Dec.{T}
 use lib.ListN.{length, length-append}
 use lib.Ieee.Fits.{and-l, and-r, and-i}
-use Rattle.rules.specs.TheWord.{State, Typed as WordTyped, mostKeys, newWord, wordOf, holding, outcomeOf}
+use Rattle.rules.specs.TheWord.{State, Typed, mostKeys, newWord, wordOf, holding, outcomeOf}
 use Rattle.rules.specs.KeyRoles.{isKey, keyDoes}
 use Rattle.rules.specs.TakingApart.{verdict}
 use Rattle.rules.specs.TonePlace.{tonePlace}
@@ -21,16 +21,16 @@ use Rattle.rules.specs.declared.StartAnswer.the-variants.{Started}
 use Rattle.rules.specs.declared.Step.{Step}
 use Rattle.rules.specs.declared.StepAnswer.the-variants.{Did}
 use Rattle.rules.specs.declared.TypeAll.{TypeAll}
-use Rattle.rules.specs.declared.TypeAnswer.the-variants.{Typed}
+use Rattle.rules.specs.declared.TypeAnswer.the-variants.{AllTyped}
 use Rattle.rules.specs.declared.PlaceAnswer.the-variants.{Found}
 use Rattle.rules.specs.declared.VerdictAnswer.the-variants.{Judged}
 use Rattle.rules.specs.declared.DecisionAnswer.the-variants.{Decided}
 use Rattle.rules.proofs.Tests.{is-true}
 use Rattle.rules.proofs.Records.{accepted as not-refused}
 use Rattle.rules.proofs.Typing.{kept-mode, kept-keys, stepping, typing-is-stepping}
-use Rattle.rules.proofs.Answering.{finds, judges, decides, typed-in-range, typed-word}
+use Rattle.rules.proofs.NotRefused.{finds, judges, decides, typed-in-range, typed-word}
 use Rattle.promises.specs.Contracts.{StepAllows}
-use Rattle.promises.specs.EachKey.{Stepped, no-key, key-and-more, Accepted, EveryPrefix, AsRuled, AfterEachKey, AfterTheList, AtEachKey}
+use Rattle.promises.specs.EachKey.{Stepped, no-key, key-and-more, AcceptedKeys, EveryPrefix, AsRuled, AfterEachKey, AfterTheList, AtEachKey}
 use Rattle.promises.proofs.AsDefined.{started, stepped, typed-as, shown-answer, shown-output, placed, judged, decided}
 use Rattle.promises.proofs.Alike.{writes-state}
 
@@ -45,15 +45,15 @@ through : {w v : Word} {ks : List ℕ} → Stepped w ks v → stepping w ks ≡ 
 through no-key = refl
 through (key-and-more {ks = ks} a s) = ap (λ (r : Step). stepping (r .word) ks) (sym (stepped a)) ∙ through s
 
-module _ (m : ℕ) (ks : List ℕ) (ok : Accepted m ks) where
-  all-typed : typeAll m ks ≡ record { answer = Typed; word = holding (newWord m) (typed m ks) }
+module _ (m : ℕ) (ks : List ℕ) (ok : AcceptedKeys m ks) where
+  all-typed : typeAll m ks ≡ record { answer = AllTyped; word = holding (newWord m) (typed m ks) }
   unfolding typeAll refusal
   all-typed =
       let e = ap not (is-true (isMode m) (ok .mode)) in
       let n = is-true (all (isKey m) ks) (ok .keys) in
       simp (e, le-ltb mostKeys (0 + length ks) (omega (arith, ok .few)), n)
 
-  pub accepted : typeAll m ks .answer ≡ Typed
+  pub accepted : typeAll m ks .answer ≡ AllTyped
   accepted = ap (λ (x : TypeAll). x .answer) all-typed
 
   all-started : start m ≡ record { answer = Started; word = newWord m }
@@ -66,7 +66,7 @@ module _ (m : ℕ) (ks : List ℕ) (ok : Accepted m ks) where
       let many : v .typed ≡ 0 + length ks = ap (λ (w : Word). w .typed) e ∙ kept-keys (wordOf (newWord m)) ks in
       let mode-is : v .mode ≡ m = ap (λ (w : Word). w .mode) e ∙ kept-mode (wordOf (newWord m)) ks in
       let f = not-refused v k range (omega arith) (subst (λ (n : ℕ). T (isKey n k)) (sym mode-is) key) in
-      ap (λ (x : Step). x .answer) (stepped a ∙ f) ∙ ap (λ (z : WordTyped). Did (outcomeOf (keyDoes z k))) word-is
+      ap (λ (x : Step). x .answer) (stepped a ∙ f) ∙ ap (λ (z : Typed). Did (outcomeOf (keyDoes z k))) word-is
 
   -- the word that typing them gives, and what is answered of it
   ruled : (v : Word) → v ≡ holding (newWord m) (typed m ks) → AsRuled m ks v
@@ -75,7 +75,7 @@ module _ (m : ℕ) (ks : List ℕ) (ok : Accepted m ks) where
       let range : outOfRange v ≡ false = ap outOfRange as-typed ∙ typed-in-range m ks accepted in
       let in-range : T (not (outOfRange v)) = subst (λ (b : Bool). T (not b)) (sym range) tt in
       let word-is : wordOf v ≡ typed m ks = ap wordOf as-typed ∙ typed-word m ks accepted in
-      let state-is : wordOf v .state ≡ typed m ks .state = ap (λ (z : WordTyped). z .state) word-is in
+      let state-is : wordOf v .state ≡ typed m ks .state = ap (λ (z : Typed). z .state) word-is in
       record {
         word = e;
         holds = word-is;
@@ -84,7 +84,7 @@ module _ (m : ℕ) (ks : List ℕ) (ok : Accepted m ks) where
             (shown-answer a ∙ ap (λ (x : Written). x .answer) f, shown-output a ∙ ap (λ (x : Written). x .output) f);
         place = λ a. placed a ∙ finds v range ∙ ap (λ (z : State). Found (tonePlace (z .letters) (z .tone))) state-is;
         judgement = λ a. judged a ∙ judges v range ∙ ap (λ (z : State). Judged (verdict (z .letters) (z .tone))) state-is;
-        keep-or-restore = λ a. decided a ∙ decides v range ∙ ap (λ (z : WordTyped). Decided (decision z)) word-is;
+        keep-or-restore = λ a. decided a ∙ decides v range ∙ ap (λ (z : Typed). Decided (decision z)) word-is;
         next = λ {k} {r} room key a. one-more v e in-range word-is k r room key a;
       }
 

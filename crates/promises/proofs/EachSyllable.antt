@@ -14,7 +14,7 @@ use Rattle.rules.specs.declared.TypeAll.{TypeAll}
 use Rattle.rules.specs.declared.VerdictAnswer.the-variants.{Judged}
 use Rattle.rules.specs.declared.DecisionAnswer.the-variants.{Decided}
 use Rattle.rules.specs.declared.Decision.{Decision}
-use Rattle.rules.proofs.Answering.{judges, decides, typed-in-range, typed-word}
+use Rattle.rules.proofs.NotRefused.{judges, decides, typed-in-range, typed-word}
 use Rattle.forms.specs.Syllables.{openWord, bareKeys, Gives}
 use Rattle.forms.proofs.AnyOrder.{any-order}
 use Rattle.promises.specs.Contracts.{TypeAllows}

@@ -13,7 +13,7 @@ use Rattle.forms.specs.Spelling.{ShownBySyllable}
 use Rattle.forms.proofs.StandardList.{standard-list, one-list}
 use Rattle.forms.proofs.RoundTrip.{round-trip}
 use Rattle.forms.proofs.Spells.{Accepts, written-accepts, accepts-written}
-use Rattle.forms.proofs.Accepted.{shown-spelled, spelled-shown}
+use Rattle.forms.proofs.AcceptedTexts.{shown-spelled, spelled-shown}
 use Rattle.promises.specs.Contracts.{SpellAllows}
 use Rattle.promises.specs.RoundTrip.{SpelledBack, OneList, OnlySyllables}
 use Rattle.promises.proofs.AsDefined.{spelled-answer, spelled-output}

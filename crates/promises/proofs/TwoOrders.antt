@@ -16,7 +16,7 @@ use Rattle.rules.specs.declared.Step.{Step}
 use Rattle.rules.proofs.Tests.{is-false}
 use Rattle.rules.proofs.Commute.{Differ}
 use Rattle.rules.proofs.StaysInRange.{Whole, step-in-range}
-use Rattle.rules.proofs.Answering.{shows, finds, judges, decides}
+use Rattle.rules.proofs.NotRefused.{shows, finds, judges, decides}
 use Rattle.rules.proofs.RecordOrders.{record-orders}
 use Rattle.promises.specs.TwoOrders.{differ, OpenWithRoom, withKeys, FirstHalf}
 use Rattle.promises.proofs.AsDefined.{stepped, shown-answer, shown-output, placed, judged, decided}
@@ -76,7 +76,7 @@ first-half w k m a b wk wm km mk o differing k-typed k-acted m-typed m-acted m-a
         shown-answer p ∙ ap (λ (z : Written). z .answer) (same-text (km .word) (mk .word) km-range mk-range states _) ∙ sym (shown-answer q),
         shown-output p ∙ ap (λ (z : Written). z .output) (same-text (km .word) (mk .word) km-range mk-range states _) ∙ sym (shown-output q),
       );
-      written = λ {out} room p.
+      text-written = λ {out} room p.
           let f = shows (km .word) km-range out room in
           (shown-answer p ∙ ap (λ (z : Written). z .answer) f, shown-output p ∙ ap (λ (z : Written). z .output) f);
       place = λ p q. (_, placed p ∙ finds (km .word) km-range, placed q ∙ sym (same-place (km .word) (mk .word) km-range mk-range states) ∙ finds (km .word) km-range);

@@ -11,12 +11,12 @@ use Rattle.rules.specs.declared.CommitAnswer.{CommitAnswer}
 use Rattle.rules.specs.declared.CommitAnswer.the-variants.{Granted}
 use Rattle.rules.specs.HandedBack.{HandedBack}
 use Rattle.promises.specs.Contracts.{TypeAllows, ShowAllows, CommitAllows, QuestionAllows}
-use Rattle.promises.specs.EachKey.{Accepted}
+use Rattle.promises.specs.EachKey.{AcceptedKeys}
 
 -- Any accepted mode and keys, typed; the word shown into an output of 96 bytes or more; what was written is granted.
 abbrev pub ShownIsGranted : Type 0
 ShownIsGranted =
-    (m : ℕ) (ks : List ℕ) → Accepted m ks → (r : TypeAll) → TypeAllows m ks r → (before after : List ℕ) (a : WriteAnswer) → mostBytes ≤ length before
+    (m : ℕ) (ks : List ℕ) → AcceptedKeys m ks → (r : TypeAll) → TypeAllows m ks r → (before after : List ℕ) (a : WriteAnswer) → mostBytes ≤ length before
     → ShowAllows (r .word) before a after → (n : ℕ) × (a ≡ Wrote n) × ((c : CommitAnswer) → QuestionAllows m ks (take n after) c → c ≡ Granted)
 
 -- Where commit is granted it hands back these keys, or the shown text of a word that is valid, closed, starts with đ, or had no act or undo.

@@ -27,7 +27,7 @@ use Rattle.rules.specs.declared.Step.{Step}
 use Rattle.rules.specs.declared.StepAnswer.the-variants.{Did}
 use Rattle.rules.specs.declared.StepAnswer.the-variants.{Refused as StepRefused}
 use Rattle.rules.specs.declared.TypeAll.{TypeAll}
-use Rattle.rules.specs.declared.TypeAnswer.the-variants.{Typed}
+use Rattle.rules.specs.declared.TypeAnswer.the-variants.{AllTyped}
 use Rattle.rules.specs.declared.TypeAnswer.the-variants.{Refused as TypeRefused}
 use Rattle.rules.specs.declared.WriteAnswer.{WriteAnswer}
 use Rattle.rules.specs.declared.WriteAnswer.the-variants.{Wrote}
@@ -72,7 +72,7 @@ pub record Demand1 : Type 0 where
   pub stepping : (w : Word) (k : ℕ) (r : Step) → StepAllows w k r →
       Exactly (stepCall w k) r (record { answer = Did (outcomeOf (keyDoes (wordOf w) k)); word = holding w (type (wordOf w) k) }) (λ x. record { answer = StepRefused x; word = w })
   pub typing : (m : ℕ) (ks : List ℕ) (r : TypeAll) → TypeAllows m ks r →
-      Exactly (typeCall m ks) r (record { answer = Typed; word = holding (newWord m) (typed m ks) }) (λ x. record { answer = TypeRefused x; word = newWord telex })
+      Exactly (typeCall m ks) r (record { answer = AllTyped; word = holding (newWord m) (typed m ks) }) (λ x. record { answer = TypeRefused x; word = newWord telex })
   -- the output after a refusal is as it was before
   pub showing : (w : Word) (before after : List ℕ) (r : WriteAnswer) → ShowAllows w before r after →
       Exactly {R = Written} (showCall w before) (record { answer = r; output = after })

@@ -18,7 +18,7 @@ use Rattle.rules.specs.declared.StartAnswer.the-variants.{Started}
 use Rattle.rules.specs.declared.Step.{Step}
 use Rattle.rules.specs.declared.StepAnswer.the-variants.{Did}
 use Rattle.rules.specs.declared.TypeAll.{TypeAll}
-use Rattle.rules.specs.declared.TypeAnswer.the-variants.{Typed}
+use Rattle.rules.specs.declared.TypeAnswer.the-variants.{AllTyped}
 use Rattle.rules.specs.declared.WriteAnswer.{WriteAnswer}
 use Rattle.rules.specs.declared.WriteAnswer.the-variants.{Wrote}
 use Rattle.rules.specs.declared.PlaceAnswer.{PlaceAnswer}
@@ -35,14 +35,14 @@ pub data Stepped : Word → List ℕ → Word → Type 0 where
   key-and-more : {w v : Word} {k : ℕ} {ks : List ℕ} {r : Step} → StepAllows w k r → Stepped (r .word) ks v → Stepped w (k ∷ ks) v
 
 -- Any mode that exists and any list of up to 32 keys that it allows.
-pub record Accepted (m : ℕ) (ks : List ℕ) : Type 0 where
+pub record AcceptedKeys (m : ℕ) (ks : List ℕ) : Type 0 where
   pub mode : T (isMode m)
   pub few : length ks ≤ mostKeys
   pub keys : T (all (isKey m) ks)
 
 -- So what is said of every accepted list is said after each key of one.
 abbrev pub EveryPrefix : Type 0
-EveryPrefix = (m : ℕ) (ks more : List ℕ) → Accepted m (ks ++ more) → Accepted m ks
+EveryPrefix = (m : ℕ) (ks more : List ℕ) → AcceptedKeys m (ks ++ more) → AcceptedKeys m ks
 
 -- The word after these keys, and the answers about it, are those of the rules; no answer is a refusal.
 pub record AsRuled (m : ℕ) (ks : List ℕ) (v : Word) : Type 0 where
@@ -60,14 +60,14 @@ pub record AsRuled (m : ℕ) (ks : List ℕ) (v : Word) : Type 0 where
 
 -- one by one, from a new word
 abbrev pub AfterEachKey : Type 0
-AfterEachKey = (m : ℕ) (ks : List ℕ) (new : Start) (v : Word) → Accepted m ks → StartAllows m new → Stepped (new .word) ks v → (new .answer ≡ Started) × AsRuled m ks v
+AfterEachKey = (m : ℕ) (ks : List ℕ) (new : Start) (v : Word) → AcceptedKeys m ks → StartAllows m new → Stepped (new .word) ks v → (new .answer ≡ Started) × AsRuled m ks v
 
 -- all at once
 abbrev pub AfterTheList : Type 0
-AfterTheList = (m : ℕ) (ks : List ℕ) (r : TypeAll) → Accepted m ks → TypeAllows m ks r → (r .answer ≡ Typed) × AsRuled m ks (r .word)
+AfterTheList = (m : ℕ) (ks : List ℕ) (r : TypeAll) → AcceptedKeys m ks → TypeAllows m ks r → (r .answer ≡ AllTyped) × AsRuled m ks (r .word)
 
 -- the same word both ways
 abbrev pub AtEachKey : Type 0
 AtEachKey =
-    (m : ℕ) (ks : List ℕ) (new : Start) (v : Word) (r : TypeAll) → Accepted m ks → StartAllows m new → Stepped (new .word) ks v → TypeAllows m ks r
-    → (r .answer ≡ Typed) × (r .word ≡ v)
+    (m : ℕ) (ks : List ℕ) (new : Start) (v : Word) (r : TypeAll) → AcceptedKeys m ks → StartAllows m new → Stepped (new .word) ks v → TypeAllows m ks r
+    → (r .answer ≡ AllTyped) × (r .word ≡ v)

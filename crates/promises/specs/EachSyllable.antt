@@ -11,7 +11,7 @@ use Rattle.rules.specs.CodePoints.{shown}
 use Rattle.rules.specs.Speller.{toneKeys}
 use Rattle.rules.specs.Refusals.{isMode}
 use Rattle.rules.specs.declared.TypeAll.{TypeAll}
-use Rattle.rules.specs.declared.TypeAnswer.the-variants.{Typed}
+use Rattle.rules.specs.declared.TypeAnswer.the-variants.{AllTyped}
 use Rattle.rules.specs.declared.WriteAnswer.{WriteAnswer}
 use Rattle.rules.specs.declared.WriteAnswer.the-variants.{Wrote, Refused}
 use Rattle.rules.specs.declared.VerdictAnswer.{VerdictAnswer}
@@ -24,7 +24,7 @@ use Rattle.promises.specs.Contracts.{TypeAllows, ShowAllows, VerdictAllo
 
 -- The result of typing a list is this syllable: its letters in their case, its tone, open; show writes its text where there is room for it, the verdict is 0 and the decision keep.
 pub record IsSyllable (r : TypeAll) (w : Letters) (t : ℕ) : Type 0 where
-  pub answer : r .answer ≡ Typed
+  pub answer : r .answer ≡ AllTyped
   pub state : wordOf (r .word) .state ≡ openWord w t
   pub text : {before after : List ℕ} {a : WriteAnswer} → length (shown (openWord w t)) ≤ length before → ShowAllows (r .word) before a after →
       (a ≡ Wrote (length (shown (openWord w t)))) × (after ≡ atFront (shown (openWord w t)) before)

@@ -83,7 +83,7 @@ pub record BothOrders (w : Word) (k m : ℕ) (a b : Act) (km mk : Step) : Type 0
   pub m-then-k : mk .word .keys ≡ atFront (take (w .typed) (w .keys) ++ (m ∷ k ∷ [])) (w .keys)
   -- the same text into any output, written where there is room for any text
   pub text : {out after after′ : List ℕ} {r r′ : WriteAnswer} → ShowAllows (km .word) out r after → ShowAllows (mk .word) out r′ after′ → (r ≡ r′) × (after ≡ after′)
-  pub written : {out after : List ℕ} {r : WriteAnswer} → mostBytes ≤ length out → ShowAllows (km .word) out r after →
+  pub text-written : {out after : List ℕ} {r : WriteAnswer} → mostBytes ≤ length out → ShowAllows (km .word) out r after →
       (r ≡ Wrote (length (shown (wordOf (km .word) .state)))) × (after ≡ atFront (shown (wordOf (km .word) .state)) out)
   -- the same place, verdict and decision, and none of these is a refusal
   pub place : {r r′ : PlaceAnswer} → PlaceAllows (km .word) r → PlaceAllows (mk .word) r′ → (p : Place) × (r ≡ Found p) × (r′ ≡ Found p)

@@ -16,7 +16,7 @@ use Rattle.rules.specs.Refusals.{all, any, allLetters, isMode, countsOver, lett
 use Rattle.rules.specs.declared.Word.{Word}
 use Rattle.letters.specs.Writing.{isLetter}
 use Rattle.records.specs.declared.Numbers.{Numbers}
-use Rattle.records.specs.Numbers.{numbersOf, over, numbersWrong}
+use Rattle.records.specs.Numbers.{numbersOf, wordIn, numbersWrong}
 
 -- one turn
 module _ (f : ℕ → Bool) (s : List ℕ) (i : ℕ) where
@@ -107,8 +107,8 @@ module _ (mode : ℕ) (n : Numbers) where
 
   -- counts in order are at most 32
   module _ (e : numbersWrong mode n ≡ false) where
-    in-order : over n ≡ false
-    in-order = or-false (over n) _ e .0
+    in-order : any (countsOver (wordIn mode [] [] n)) ≡ false
+    in-order = or-false (any (countsOver (wordIn mode [] [] n))) _ e .0
 
     pub typed-small : n .typed ≤ mostKeys
     typed-small = ltb-false mostKeys (n .typed) (or-false (ltb mostKeys (n .typed)) _ in-order .0)

@@ -69,7 +69,7 @@ pub fn numbers_wrong(mode: u8, n: Numbers) -> bool
     ((Word::KEYS as u8) < n.typed)
         | ((n.typed < n.count)
             | (!(n.acted as usize + n.undone as usize + n.appended as usize == typed)
-                | ((DOT < n.tone) | !((mode == Word::TELEX) | (mode == Word::VNI)))))
+                | ((DOT < n.tone) | !keys::is_mode(mode))))
 }
 
 pub fn out_of_range(w: Word) -> bool

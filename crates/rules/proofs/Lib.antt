@@ -20,4 +20,4 @@ pub mod Wholes
 pub mod TonePlaces
 pub mod TextFits
 pub mod Commits
-pub mod Answering
+pub mod NotRefused

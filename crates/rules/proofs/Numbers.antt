@@ -2,26 +2,27 @@
 use mathlib.Core.Path.{_≡_, refl, sym, ap, ap₂, subst, _∙_}
 use mathlib.Core.Bool.{Bool, true, false, _&&_, _||_}
 use mathlib.Core.List.{List, [], _∷_, _++_, map}
-use Prim.Native.Nat.{ℕ, _+_, _*_, _/_, _%_, _≤_, _<_}
+use Prim.Native.Nat.{ℕ, zero, suc, _+_, _*_, _/_, _%_, _≤_, _<_}
 use Prim.Native.Char.{code}
 use native.Mathlib.Omega.{arith}
 use lib.Dec.{T, eqb, eqb→eq, eqb-refl, leb, leb→le, le→leb, not-T}
 use lib.Ieee.Fits.{and-i, and-l, and-r}
 use Rattle.rules.specs.Letters.{Letter, Letters, plain, circumflex, breve, horn, stroke, vni, among, carries}
-use Rattle.rules.specs.TheWord.{letter, number}
+use Rattle.rules.specs.TheWord.{letter, number, capitalNumber}
 use Rattle.rules.specs.KeyRoles.{isSmall, isCapital, isDigit, isKey, lowerIf, letterOfKey}
 use Rattle.rules.specs.Refusals.{all, allLetters, baseAllowed, letterAllowed, shapeCarried, noCapitalDigit}
+use Rattle.rules.specs.LettersOfAMode.{Fine, AllFine, no-letters, and-these}
 use Rattle.rules.proofs.Tests.{either, or-l, or-r}
 use Rattle.rules.proofs.Edits.{Alike, end, kept, moved}
 
-pub record Fine (mode : ℕ) (x : Letter) : Type 0 where
-  pub allowed : T (baseAllowed mode x)
-  pub carried : T (shapeCarried x)
-  pub digit : T (noCapitalDigit x)
-
-pub data AllFine (mode : ℕ) : Letters → Type 0 where
-  no-letters : AllFine mode []
-  and-these : {x : Letter} {xs : Letters} → Fine mode x → AllFine mode xs → AllFine mode (x ∷ xs)
+-- the capital bit of a letter's number
+pub capital-bit : (n : ℕ) → n / 2048 % 2 * 2048 ≡ capitalNumber (letter n .capital)
+capital-bit n = go (n / 2048 % 2) (omega arith)
+  where
+    go : (b : ℕ) → b ≤ 1 → b * 2048 ≡ capitalNumber (eqb b 1)
+    go zero h = refl
+    go (suc zero) h = refl
+    go (suc (suc b)) h = absurd (omega arith)
 
 -- bases are below 256, shapes below 8
 within : (lo hi b : ℕ) → T (leb lo b && leb b hi) → (lo ≤ b) × (b ≤ hi)

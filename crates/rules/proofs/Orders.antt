@@ -24,7 +24,7 @@ withKeys z ks = record { mode = z .mode; state = z .state; keys = ks; acted = z 
 
 -- What both orders agree on: the two words are equal in all but the kept keys, so in letters, tone, mark and counts, and so in text, verdict and decision;
 -- the kept keys are the old ones and then the two in the order typed; and each key acts after the other as it does alone.
-pub record BothOrders (z : Typed) (k m : ℕ) (a b : Act) : Type 0 where
+pub record SameBothWays (z : Typed) (k m : ℕ) (a b : Act) : Type 0 where
   pub equal : type (type z k) m ≡ withKeys (type (type z m) k) (z .keys ++ (k ∷ m ∷ []))
   pub keys : type (type z m) k .keys ≡ z .keys ++ (m ∷ k ∷ [])
   pub text : shown (type (type z k) m .state) ≡ shown (type (type z m) k .state)
@@ -52,7 +52,7 @@ two : (z : Typed) (k m : ℕ) {a b : Act} {t v : State} → z .state .closed ≡
 two z k m o g h = ap₂ (λ (d e : Done). counted (counted z k d) m e) (acts-does z k o g) (after z k m o g h)
 
 pub orders : (z : Typed) (k m : ℕ) {a b : Act} {t u : State} → z .state .closed ≡ false → Differ (role (z .mode) k) (role (z .mode) m) →
-    keyDoes z k ≡ acted a t → keyDoes z m ≡ acted b u → BothOrders z k m a b
+    keyDoes z k ≡ acted a t → keyDoes z m ≡ acted b u → SameBothWays z k m a b
 unfolding keeps
 orders z k m {a} {b} {t} {u} o p g h =
     let g′ = does-acts z k o g in

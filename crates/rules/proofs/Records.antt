@@ -14,7 +14,8 @@ use Rattle.rules.specs.Refusals.{outOfRange}
 use Rattle.rules.specs.WhatComesBack.{stepCall, stepOr, step}
 use Rattle.rules.specs.declared.Word.{Word}
 use Rattle.rules.specs.declared.StepAnswer.the-variants.{Did}
-use Rattle.rules.proofs.Numbers.{AllFine, letters-numbers}
+use Rattle.rules.specs.LettersOfAMode.{AllFine}
+use Rattle.rules.proofs.Numbers.{letters-numbers}
 use Rattle.rules.proofs.Refused.{no-rows, not-this, refusal-none}
 use Rattle.rules.proofs.StaysInRange.{read-front}
 use Rattle.rules.proofs.Range.{not-over, twice}

@@ -23,7 +23,8 @@ use Rattle.rules.specs.declared.Role.{Role}
 use Rattle.rules.specs.declared.Role.the-variants.{ToneRole, ShapeRole, StrokeRole, NoRole}
 use Rattle.rules.specs.declared.ToneKey.the-variants.{SetTone, ClearTone}
 use Rattle.rules.proofs.Edits.{Good, good-none, good-off, good, good-shape, good-stroke, length-alike}
-use Rattle.rules.proofs.Numbers.{Fine, AllFine, NumbersInRange, numbers-in-range, fine-letters, fine-alike, fine-append, fine-key}
+use Rattle.rules.specs.LettersOfAMode.{Fine, AllFine}
+use Rattle.rules.proofs.Numbers.{NumbersInRange, numbers-in-range, fine-letters, fine-alike, fine-append, fine-key}
 use Rattle.rules.proofs.Range.{InRange, in-range, range-in, not-not}
 use Rattle.rules.proofs.Refused.{NoneHolds, not-this, refusal-none}
 

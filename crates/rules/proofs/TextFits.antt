@@ -1,13 +1,13 @@
 -- The text of any record in range fits 96 bytes.
-use mathlib.Core.Path.{_≡_, refl, ap, _∙_}
+use mathlib.Core.Path.{_≡_, refl, ap}
 use mathlib.Core.Bool.{Bool, true, false}
 use mathlib.Core.List.{List, [], _∷_}
 use Prim.Native.Nat.{ℕ, zero, suc, _+_, _*_, _/_, _%_, _≤_}
 use native.Mathlib.Omega.{arith}
 use lib.Dec.{ltb, lit≤}
-use lib.ListN.{length, take, length-append, length-map, length-take}
+use lib.ListN.{length, length-append, length-map, length-take}
 use Rattle.rules.specs.Letters.{Letters}
-use Rattle.rules.specs.TheWord.{State, mostKeys, mostBytes, letter, wordOf}
+use Rattle.rules.specs.TheWord.{State, mostKeys, mostBytes, wordOf}
 use Rattle.rules.specs.TonePlace.{tonePlace}
 use Rattle.rules.specs.CodePoints.{Sign, point, utf8, bytes, withoutTone, toneAt, signsAt, shown}
 use Rattle.rules.specs.Refusals.{outOfRange}

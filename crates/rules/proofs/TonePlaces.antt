@@ -1,7 +1,7 @@
 -- The tone is shown on a vowel letter, whatever the word.
-use mathlib.Core.Path.{_≡_, refl, sym, ap, subst, _∙_}
+use mathlib.Core.Path.{_≡_, refl, sym, subst}
 use mathlib.Core.Bool.{Bool, true, false, not, _&&_, _||_}
-use mathlib.Core.List.{List, [], _∷_, _++_}
+use mathlib.Core.List.{[], _∷_, _++_}
 use mathlib.Core.Option.{Option, none, some}
 use Prim.Native.Nat.{ℕ, zero, suc, _+_, _<_}
 use native.Mathlib.Omega.{arith}
@@ -9,10 +9,9 @@ use borrow.Author.Tests.{eqb-true}
 use lib.Dec.{T, eqb}
 use lib.ListN.{length}
 use Rattle.rules.specs.Letters.{Letter, Letters, plain, noTone, isNil}
-use Rattle.rules.specs.TakingApart.{vowel, isKind, front, frontIf, past, before, run, joins, rest, nucleusOf, initial, nucleus, final, leftovers}
+use Rattle.rules.specs.TakingApart.{vowel, front, frontIf, past, before, run, joins, nucleusOf, initial, nucleus, final, leftovers}
 use Rattle.rules.specs.TonePlace.{orHere, lastShaped, byCount, orByCount, placeWithin, placeUnless, tonePlace}
-use Rattle.rules.specs.declared.Place.{Place}
-use Rattle.rules.specs.declared.Place.the-variants.{At, Nowhere}
+use Rattle.rules.specs.declared.Place.the-variants.{At}
 use Rattle.rules.proofs.Wholes.{whole}
 
 -- there is a letter at the place, and it is a vowel letter

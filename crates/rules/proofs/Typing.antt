@@ -15,7 +15,7 @@ use Rattle.rules.specs.WhatComesBack.{step, typed}
 use Rattle.rules.specs.declared.Word.{Word}
 use Rattle.rules.specs.declared.Step.{Step}
 use Rattle.rules.proofs.Tests.{either}
-use Rattle.rules.proofs.Numbers.{no-letters}
+use Rattle.rules.specs.LettersOfAMode.{no-letters}
 use Rattle.rules.proofs.StaysInRange.{Whole, StateFine, Next, next, step-in-range}
 use Rattle.rules.proofs.Records.{word-held, held-twice, accepted}
 

@@ -16,7 +16,7 @@ use Rattle.rules.specs.declared.StepAnswer.{StepAnswer}
 use Rattle.rules.specs.declared.StepAnswer.the-variants.{Did}
 use Rattle.rules.specs.declared.StepAnswer.the-variants.{Refused as StepRefused}
 use Rattle.rules.specs.declared.TypeAnswer.{TypeAnswer}
-use Rattle.rules.specs.declared.TypeAnswer.the-variants.{Typed}
+use Rattle.rules.specs.declared.TypeAnswer.the-variants.{AllTyped}
 use Rattle.rules.specs.declared.TypeAnswer.the-variants.{Refused as TypeRefused}
 use Rattle.rules.specs.declared.WriteAnswer.{WriteAnswer}
 use Rattle.rules.specs.declared.WriteAnswer.the-variants.{Wrote}
@@ -69,7 +69,7 @@ stepSays (Did o) = answered (outcomeNumbers o)
 stepSays (StepRefused r) = refusing r
 
 abbrev pub typeSays : TypeAnswer → Says
-typeSays Typed = answered []
+typeSays AllTyped = answered []
 typeSays (TypeRefused r) = refusing r
 
 abbrev pub writeSays : WriteAnswer → Says

@@ -5,6 +5,7 @@ use mathlib.Core.Option.{Option, none, some}
 use Prim.Native.Nat.{ℕ, _+_, _/_, _%_}
 use Prim.Native.Char.{code}
 use lib.Dec.{eqb, ltb}
+use lib.ListN.{drop, getD}
 use Rattle.rules.specs.Letters.{telex, vni, characters}
 use Rattle.rules.specs.TakingApart.{verdict}
 use Rattle.rules.specs.TonePlace.{tonePlace}
@@ -69,21 +70,22 @@ lineOr (some r) m ks = refusedLine r
 abbrev pub keysLine : ℕ → List ℕ → List ℕ
 keysLine m ks = lineOr (refusal (typeCall m ks)) m ks
 
--- A line is T or V, a space, keys; any other start is refusal 1. (What stands for the keys, and what is answered to it, is each program's own.)
-abbrev pub wrongStart : List ℕ
-wrongStart = refusedLine (record { number = 1; value = 0 })
+-- A line is T or V, a space, keys; any other start is refusal 1: it names no mode, and a number that no mode has stands for it.
+-- (What stands for the keys, and what is answered to it, is each program's own. A byte that is not there counts as 0.)
+abbrev pub noMode : ℕ
+noMode = 2
 
-abbrev pub startedLine : (ℕ → List ℕ → List ℕ) → (isT isV isSpace : Bool) → List ℕ → List ℕ
-startedLine answer true isV true rest = answer telex rest
-startedLine answer true isV false rest = wrongStart
-startedLine answer false true true rest = answer vni rest
-startedLine answer false true false rest = wrongStart
-startedLine answer false false isSpace rest = wrongStart
+abbrev pub modeBy : (isT isV isSpace : Bool) → ℕ
+modeBy isT isV false = noMode
+modeBy true isV true = telex
+modeBy false true true = vni
+modeBy false false true = noMode
+
+abbrev pub modeOf : List ℕ → ℕ
+modeOf line = modeBy (eqb (getD line 0 0) (code "T")) (eqb (getD line 0 0) (code "V")) (eqb (getD line 1 0) (code " "))
 
 abbrev pub lineBy : (ℕ → List ℕ → List ℕ) → List ℕ → List ℕ
-lineBy answer [] = wrongStart
-lineBy answer (b ∷ []) = wrongStart
-lineBy answer (b ∷ c ∷ rest) = startedLine answer (eqb b (code "T")) (eqb b (code "V")) (eqb c (code " ")) rest
+lineBy answer line = answer (modeOf line) (drop 2 line)
 
 unfoldable pub answerLine : List ℕ → List ℕ
 answerLine line = lineBy keysLine line

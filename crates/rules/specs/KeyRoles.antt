@@ -158,10 +158,13 @@ breved w = last isA breve w
 abbrev pub isQ : Letter → Bool
 isQ x = eqb (x .base) (code "q")
 
+abbrev pub isPair : Bool → ℕ → ℕ → Bool
+isPair afterQ first second = eqb first (code "u") && (eqb second (code "o") && not afterQ)
+
 abbrev pub pairHere : Bool → Letter → Letters → Found
 pairHere afterQ x [] = nowhere
 pairHere afterQ x (z ∷ zs) =
-    ifSo (eqb (x .base) (code "u") && (eqb (z .base) (code "o") && not afterQ))
+    ifSo (isPair afterQ (x .base) (z .base))
     (target (eqb (x .shape) horn && eqb (z .shape) horn) (shaped plain x ∷ shaped plain z ∷ zs) (shaped horn x ∷ shaped horn z ∷ zs))
 
 abbrev pub pair : Bool → Letters → Found
@@ -169,9 +172,12 @@ pair afterQ [] = nowhere
 pair afterQ (x ∷ xs) = orElse (pairHere afterQ x xs) (behind x (pair (isQ x) xs))
 
 -- with no such pair, the first o or u not directly after q.
+abbrev pub isSingle : Bool → ℕ → Bool
+isSingle afterQ b = among b "ou" && not afterQ
+
 abbrev pub single : Bool → Letters → Found
 single afterQ [] = nowhere
-single afterQ (x ∷ xs) = orElse (ifSo (among (x .base) "ou" && not afterQ) (here horn x xs)) (behind x (single (isQ x) xs))
+single afterQ (x ∷ xs) = orElse (ifSo (isSingle afterQ (x .base)) (here horn x xs)) (behind x (single (isQ x) xs))
 
 abbrev pub horned : Letters → Found
 horned w = orElse (pair false w) (single false w)

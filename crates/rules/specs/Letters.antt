@@ -114,12 +114,12 @@ same [] (z ∷ zs) = false
 same (x ∷ xs) [] = false
 same (x ∷ xs) (z ∷ zs) = elim (is x z) [ true ↦ same xs zs | false ↦ false ]
 
-abbrev pub some : (Letters → Bool) → List Letters → Bool
-some f [] = false
-some f (z ∷ zs) = elim (f z) [ true ↦ true | false ↦ some f zs ]
+abbrev pub someWord : (Letters → Bool) → List Letters → Bool
+someWord f [] = false
+someWord f (z ∷ zs) = elim (f z) [ true ↦ true | false ↦ someWord f zs ]
 
 abbrev pub oneOf : Letters → List Letters → Bool
-oneOf w zs = some (same w) zs
+oneOf w zs = someWord (same w) zs
 
 abbrev pub isNil : Letters → Bool
 isNil [] = true

@@ -1,5 +1,6 @@
 pub mod Letters
 pub mod Refusals
+pub mod LettersOfAMode
 pub mod WhatComesBack
 pub mod AnswersInNumbers
 pub mod TheWord

@@ -1,6 +1,6 @@
 -- Document 01, "What comes back, and refusal numbers": the refusal table, one row for each number and condition.
 use mathlib.Core.Bool.{Bool, true, false, not, _&&_, _||_}
-use mathlib.Core.List.{List, [], _∷_}
+use mathlib.Core.List.{List, [], _∷_, _++_}
 use mathlib.Core.Option.{Option, none, some}
 use Prim.Native.Nat.{ℕ, suc, _+_}
 use lib.Dec.{eqb, ltb}
@@ -143,14 +143,12 @@ abbrev pub allLetters : (Letter → Bool) → List ℕ → Bool
 allLetters f [] = true
 allLetters f (n ∷ ns) = f (letter n) && allLetters f ns
 
-abbrev pub rangeFaults : Word → List Bool
-rangeFaults w =
-    -- a count over 32,
-    any (countsOver w) ∷
-    -- more letters than keys,
-    ltb (w .typed) (w .count) ∷
-    -- the three counts of kinds not adding up to the keys,
-    not (eqb (w .acted + w .undone + w .appended) (w .typed)) ∷
+-- a count over 32, more letters than keys, the three counts of kinds not adding up to the keys,
+abbrev pub countFaults : Word → List Bool
+countFaults w = any (countsOver w) ∷ ltb (w .typed) (w .count) ∷ not (eqb (w .acted + w .undone + w .appended) (w .typed)) ∷ []
+
+abbrev pub heldFaults : Word → List Bool
+heldFaults w =
     -- a kept key or letter that its mode does not allow,
     not (all (isKey (w .mode)) (take (w .typed) (w .keys))) ∷
     not (all (letterAllowed (w .mode)) (take (w .count) (w .letters))) ∷
@@ -158,10 +156,14 @@ rangeFaults w =
     not (allLetters shapeCarried (take (w .count) (w .letters))) ∷
     -- a digit marked as a capital,
     not (allLetters noCapitalDigit (take (w .count) (w .letters))) ∷
-    -- a tone or mode number that does not exist
-    ltb dot (w .tone) ∷
-    not (isMode (w .mode)) ∷
     []
+
+-- a tone or mode number that does not exist
+abbrev pub toneAndModeFaults : Word → List Bool
+toneAndModeFaults w = ltb dot (w .tone) ∷ wrongMode (w .mode) ∷ []
+
+abbrev pub rangeFaults : Word → List Bool
+rangeFaults w = countFaults w ++ (heldFaults w ++ toneAndModeFaults w)
 
 unfoldable pub outOfRange : Word → Bool
 outOfRange w = any (rangeFaults w)

@@ -5,7 +5,7 @@ use Prim.Native.Nat.{ℕ}
 use Prim.Native.Char.{code}
 use Prim.Native.String.{String}
 use lib.Dec.{eqb}
-use Rattle.rules.specs.Letters.{Letter, Letters, plain, acute, dot, elem, among, word, words, same, some, oneOf, isNil, firstBase}
+use Rattle.rules.specs.Letters.{Letter, Letters, plain, acute, dot, elem, among, word, words, same, someWord, oneOf, isNil, firstBase}
 
 -- Vowel letters: a e i o u y in any shape.
 abbrev pub vowel : ℕ → Bool
@@ -122,10 +122,13 @@ rows =
     row "ai ao au ay âu ây eo êu ia iu oi ôi ơi ua ui ưa ưi ưu iêu yêu oai oay oeo uây uôi uya ươi ươu uyu uêu oao" "" true ∷
     []
 
+-- a row's finals, none among them where its nuclei stand open
+abbrev pub inRow : Row → Letters → Bool
+inRow r fin = (isNil fin && r .bare) || oneOf fin (r .ends)
+
 -- After gi, ê also takes ng (giếng).
 abbrev pub takes : Letters → Row → Letters → Letters → Bool
-takes ini r z fin =
-    (isNil fin && r .bare) || (oneOf fin (r .ends) || (same ini (word "gi") && (same z (word "ê") && same fin (word "ng"))))
+takes ini r z fin = inRow r fin || (same ini (word "gi") && (same z (word "ê") && same fin (word "ng")))
 
 -- yê and yêu stand only after no initial or qu. After qu, no nucleus of two or more letters begins with o in any shape.
 abbrev pub twoOrMore : Letters → Bool
@@ -139,7 +142,7 @@ stands ini z =
 -- some nucleus of some row
 abbrev pub someRow : (Row → Letters → Bool) → List Row → Bool
 someRow f [] = false
-someRow f (r ∷ rs) = elim (some (f r) (r .nuclei)) [ true ↦ true | false ↦ someRow f rs ]
+someRow f (r ∷ rs) = elim (someWord (f r) (r .nuclei)) [ true ↦ true | false ↦ someRow f rs ]
 
 -- the nucleus, in letters and shapes, is in the list, is allowed after this initial, and with this final
 abbrev pub isThis : Letters → Letters → Letters → Row → Letters → Bool
@@ -168,25 +171,31 @@ firstThatHolds [] = 0
 firstThatHolds (c ∷ cs) = elim (c .holds) [ true ↦ c .number | false ↦ firstThatHolds cs ]
 
 -- Verdict, first that holds: 1 empty nucleus; 2 unknown initial; 3 leftovers; 4 initial doesn't fit the first vowel; 5 unknown final;
+abbrev pub unknownInitial : Letters → Check
+unknownInitial ini = check 2 (not (oneOf ini initials))
+
+abbrev pub unfitInitial : Letters → ℕ → Check
+unfitInitial ini v = check 4 (not (fit ini v))
+
 abbrev pub oneToFive : Letters → List Check
 oneToFive w =
     check 1 (isNil (nucleus w)) ∷
-    check 2 (not (oneOf (initial w) initials)) ∷
+    unknownInitial (initial w) ∷
     check 3 (not (isNil (leftovers w))) ∷
-    check 4 (not (fit (initial w) (firstBase (nucleus w)))) ∷
+    unfitInitial (initial w) (firstBase (nucleus w)) ∷
     check 5 (not (oneOf (final w) finals)) ∷
     []
 
 -- 6 nucleus, in letters and shapes, not in the list, not allowed after this initial, or not with this final;
 -- 7 final c, ch, p or t with a tone other than 1 or 5; 0 valid.
-abbrev pub sixAndSeven : Letters → ℕ → List Check
-sixAndSeven w tone =
-    check 6 (not (listed (initial w) (nucleus w) (final w))) ∷
+abbrev pub sixAndSeven : (allowed : Bool) → Letters → ℕ → List Check
+sixAndSeven allowed w tone =
+    check 6 (not allowed) ∷
     check 7 (not (fits (final w) tone)) ∷
     []
 
 unfoldable pub verdict : Letters → ℕ → ℕ
-verdict w tone = firstThatHolds (oneToFive w ++ sixAndSeven w tone)
+verdict w tone = firstThatHolds (oneToFive w ++ sixAndSeven (listed (initial w) (nucleus w) (final w)) w tone)
 
 -- Admitted: verdict checks 1 to 5 pass, and some listed nucleus has the same base letters,
 -- agrees with every letter already shaped (plain letters are free), may stand after this initial, and takes this final; an empty final is always taken.

@@ -1,19 +1,21 @@
 // The types of document 01: the word's record, the roles of keys, and the answer of each entry.
 // Every rule over them is a definition in specs/, one file for each section of the document.
 ghost use mathlib.Core.Path.{_≡_};
-ghost use Rattle.rules.specs.Letters.{telex, vni};
-ghost use Rattle.rules.specs.TheWord.{newWord};
+ghost use Prim.Native.Nat.{_%_};
+ghost use Rattle.rules.specs.Letters.{telex, vni, small, is as isOf};
+ghost use Rattle.rules.specs.TheWord.{newWord, letter as letterOf, number};
+ghost use Rattle.rules.specs.KeyRoles.{shaped};
 
 // A word: its mode, its letters, one tone for all of them, the closed mark, the keys typed and the counts of what they did.
 // A letter is one number: its base, 256 times its shape, and 2048 more for a capital.
 // Every field is public, so any record can be handed in; what is out of range is refused (refusal 8).
 pub struct Word {
     pub mode: u8,
-    pub letters: [u16; 32],
+    pub letters: [u16; Word::KEYS],
     pub count: u8,
     pub tone: u8,
     pub closed: bool,
-    pub keys: [u8; 32],
+    pub keys: [u8; Word::KEYS],
     pub typed: u8,
     pub acted: u8,
     pub undone: u8,
@@ -48,11 +50,11 @@ impl Word {
     {
         Word {
             mode: mode,
-            letters: [0; 32],
+            letters: [0; Word::KEYS],
             count: 0,
             tone: NO_TONE,
             closed: false,
-            keys: [0; 32],
+            keys: [0; Word::KEYS],
             typed: 0,
             acted: 0,
             undone: 0,
@@ -74,6 +76,41 @@ pub const STROKE: u8 = 4;
 
 // What a capital adds to a letter's number.
 pub const CAPITAL: u16 = 2048;
+
+// A letter's number taken apart: its base,
+pub fn base(letter: u16) -> u8
+    ensures { λ r. ⌜ r ≡ letterOf letter .base ⌝ }
+{
+    (letter % 256) as u8
+}
+
+// its shape,
+pub fn shape(letter: u16) -> u8
+    ensures { λ r. ⌜ r ≡ letterOf letter .shape ⌝ }
+{
+    (letter / 256 % 8) as u8
+}
+
+// and its case.
+pub fn is_capital(letter: u16) -> bool
+    ensures { λ r. ⌜ r ≡ letterOf letter .capital ⌝ }
+{
+    letter / CAPITAL % 2 == 1
+}
+
+// The letter of this base in this shape, in either case.
+pub fn is(letter: u16, base: u8, shape: u8) -> bool
+    ensures { λ r. ⌜ r ≡ isOf (letterOf letter) (small base shape) ⌝ }
+{
+    (letter % 256 == base as u16) & (letter / 256 % 8 == shape as u16)
+}
+
+// The same letter in another shape, one of the eight that a letter's number has room for.
+pub fn reshaped(letter: u16, shape: u8) -> u16
+    ensures { λ r. ⌜ r ≡ number (shaped (shape % 8) (letterOf letter)) ⌝ }
+{
+    letter % 256 + 256 * ((shape % 8) as u16) + letter / CAPITAL % 2 * CAPITAL
+}
 
 // The tones of a word.
 pub const NO_TONE: u8 = 0;
@@ -161,7 +198,7 @@ pub struct Step {
 }
 
 pub enum TypeAnswer {
-    Typed,
+    AllTyped,
     Refused(Refusal),
 }
 

@@ -11,7 +11,7 @@ use Rattle.rules.specs.Letters.{vni}
 use Rattle.rules.specs.TheWord.{letter, atFront}
 use Rattle.rules.specs.CodePoints.{sign, point, utf8}
 use Rattle.rules.specs.declared.Place.{Place}
-use Rattle.letters.specs.Writing.{isLetter, toneStands, written}
+use Rattle.letters.specs.Writing.{isLetter, toneStands, letterBytes}
 use Rattle.show.specs.Filling.{toneOn, textFrom}
 
 -- a letter has at most three bytes
@@ -23,8 +23,8 @@ utf8-short c = go (ltb c 0x80) (ltb c 0x800) refl refl
     go false true e d = rw (utf8, e, d) (lit≤ tt)
     go false false e d = rw (utf8, e, d) (lit≤ tt)
 
-three-at-most : (n t : ℕ) → length (written n t) ≤ 3
-unfolding written
+three-at-most : (n t : ℕ) → length (letterBytes n t) ≤ 3
+unfolding letterBytes
 three-at-most n t = go (isLetter vni n && toneStands n t)
   where
     go : (b : Bool) → length {A = ℕ} (elim b [ true ↦ utf8 (point (sign (letter n) t)) | false ↦ [] ]) ≤ 3
@@ -52,7 +52,7 @@ module _ (p : Place) (t : ℕ) (letters old : List ℕ) where
 
   module _ (i at : ℕ) (text : List ℕ) (so : SoFar p t letters old i at text) (room : 3 * length letters ≤ length old) where
     abbrev here : List ℕ
-    here = written (getD letters i 0) (toneOn p t i)
+    here = letterBytes (getD letters i 0) (toneOn p t i)
 
     pub one-more : (n : ℕ) (next : List ℕ) → i < length letters → n ≡ at + length here → next ≡ sets text at here → SoFar p t letters old (i + 1) n next
     one-more n next h d s =

@@ -22,7 +22,7 @@ use Rattle.rules.proofs.Tests.{or-r}
 use Rattle.rules.proofs.Numbers.{NumbersInRange}
 use Rattle.rules.proofs.Range.{in-range}
 use Rattle.rules.proofs.TonePlaces.{vowelAt, tone-on-a-vowel}
-use Rattle.letters.specs.Writing.{isLetter, toneStands, written}
+use Rattle.letters.specs.Writing.{isLetter, toneStands, letterBytes}
 use Rattle.show.specs.Filling.{toneIf, toneOn, textFrom}
 
 -- a letter of its word, with a tone that stands there, is written as its bytes
@@ -31,8 +31,8 @@ if-both true true x y s t = refl
 if-both true false x y s t = absurd t
 if-both false q x y s t = absurd s
 
-as-bytes : (n t : ℕ) → T (isLetter vni n) → T (toneStands n t) → written n t ≡ utf8 (point (sign (letter n) t))
-unfolding written
+as-bytes : (n t : ℕ) → T (isLetter vni n) → T (toneStands n t) → letterBytes n t ≡ utf8 (point (sign (letter n) t))
+unfolding letterBytes
 as-bytes n t l s = if-both (isLetter vni n) (toneStands n t) (utf8 (point (sign (letter n) t))) [] l s
 
 -- letters without a tone
@@ -43,7 +43,7 @@ without : (p : Place) (t i : ℕ) (ns : List ℕ) → T (all (isLetter vni) ns) 
 without p t i [] l off = refl
 without p t i (n ∷ ns) l off =
     ap₂ _++_
-    (ap (written n) (off i (omega arith)) ∙ as-bytes n noTone (and-l (isLetter vni n) (all (isLetter vni) ns) l) (no-tone-stands n))
+    (ap (letterBytes n) (off i (omega arith)) ∙ as-bytes n noTone (and-l (isLetter vni n) (all (isLetter vni) ns) l) (no-tone-stands n))
     (without p t (suc i) ns (and-r (isLetter vni n) (all (isLetter vni) ns) l) (λ k h. off k (omega arith)))
 
 -- the tone on a vowel, the others without
@@ -59,12 +59,12 @@ module _ (t : ℕ) (most : t ≤ dot) where
   toned i k [] l v = absurd v
   toned i zero (n ∷ ns) l v =
       ap₂ _++_
-      (ap (λ (b : Bool). written n (toneIf b t)) (eq-eqb i (i + 0) (omega arith)) ∙ as-bytes n t (and-l (isLetter vni n) (all (isLetter vni) ns) l) (on-vowel n v))
+      (ap (λ (b : Bool). letterBytes n (toneIf b t)) (eq-eqb i (i + 0) (omega arith)) ∙ as-bytes n t (and-l (isLetter vni n) (all (isLetter vni) ns) l) (on-vowel n v))
       (without (At (i + 0)) t (suc i) ns (and-r (isLetter vni n) (all (isLetter vni) ns) l) (λ k h. ap (λ (b : Bool). toneIf b t) (ne-eqb k (i + 0) (λ e. omega arith))))
   toned i (suc k) (n ∷ ns) l v =
       let e : i + suc k ≡ suc i + k = omega arith in
       ap₂ _++_
-      (ap (λ (b : Bool). written n (toneIf b t)) (ne-eqb i (i + suc k) (λ e. omega arith)) ∙ as-bytes n noTone (and-l (isLetter vni n) (all (isLetter vni) ns) l) (no-tone-stands n))
+      (ap (λ (b : Bool). letterBytes n (toneIf b t)) (ne-eqb i (i + suc k) (λ e. omega arith)) ∙ as-bytes n noTone (and-l (isLetter vni n) (all (isLetter vni) ns) l) (no-tone-stands n))
       (ap (λ (m : ℕ). textFrom (At m) t (suc i) ns) e ∙ toned (suc i) k ns (and-r (isLetter vni n) (all (isLetter vni) ns) l) v)
 
   signed : (p : Place) (ns : List ℕ) → T (all (isLetter vni) ns) → ((k : ℕ) → p ≡ At k → T (vowelAt k (map letter ns))) → textFrom p t 0 ns ≡ bytes (signsAt p t (map letter ns))

@@ -10,13 +10,13 @@ use Rattle.rules.specs.TheWord.{letter}
 use Rattle.rules.specs.TonePlace.{tonePlace}
 use Rattle.rules.specs.declared.Place.{Place}
 use Rattle.rules.specs.declared.Place.the-variants.{At, Nowhere}
-use Rattle.letters.specs.Writing.{written}
+use Rattle.letters.specs.Writing.{letterBytes}
 use Rattle.show.specs.Filling.{toneIf, tonedAt, textFrom, textOf}
 
 -- behind the last letter is nowhere
 behind : (t n i : ℕ) (ns : List ℕ) → i + length ns ≤ n → textFrom (At n) t i ns ≡ textFrom Nowhere t i ns
 behind t n i [] h = refl
-behind t n i (x ∷ ns) h = ap₂ _++_ (ap (λ (b : Bool). written x (toneIf b t)) (ne-eqb i n (λ e. omega arith))) (behind t n (suc i) ns (omega arith))
+behind t n i (x ∷ ns) h = ap₂ _++_ (ap (λ (b : Bool). letterBytes x (toneIf b t)) (ne-eqb i n (λ e. omega arith))) (behind t n (suc i) ns (omega arith))
 
 by-number : (t : ℕ) (ns : List ℕ) (p : Place) → textFrom (At (tonedAt p (length ns))) t 0 ns ≡ textFrom p t 0 ns
 by-number t ns (At i) = refl

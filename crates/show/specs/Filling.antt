@@ -8,7 +8,7 @@ use Rattle.rules.specs.Letters.{noTone}
 use Rattle.rules.specs.TheWord.{letter, mostKeys, mostBytes}
 use Rattle.rules.specs.TonePlace.{tonePlace}
 use Rattle.rules.specs.WhatComesBack.{Written}
-use Rattle.letters.specs.Writing.{written}
+use Rattle.letters.specs.Writing.{letterBytes}
 use Rattle.output.specs.Front.{put}
 use Rattle.rules.specs.declared.Place.{Place}
 use Rattle.rules.specs.declared.Place.the-variants.{At, Nowhere}
@@ -30,7 +30,7 @@ tonedAt Nowhere n = n
 -- the bytes of letters' numbers, the first of which stands at place i of the word
 abbrev pub textFrom : Place → ℕ → ℕ → List ℕ → List ℕ
 textFrom p t i [] = []
-textFrom p t i (n ∷ ns) = written n (toneOn p t i) ++ textFrom p t (suc i) ns
+textFrom p t i (n ∷ ns) = letterBytes n (toneOn p t i) ++ textFrom p t (suc i) ns
 
 -- the bytes of letters' numbers, with the tone on the one at its place
 abbrev pub textOf : List ℕ → ℕ → List ℕ

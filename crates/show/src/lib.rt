@@ -7,7 +7,7 @@ ghost use Rattle.rules.specs.TheWord.{letter, atFront};
 ghost use Rattle.rules.specs.WhatComesBack.{show as showOf};
 ghost use mathlib.Core.List.{map};
 ghost use Rattle.rules.specs.TonePlace.{tonePlace};
-ghost use Rattle.letters.specs.Writing.{bytesIf, written};
+ghost use Rattle.letters.specs.Writing.{bytesIf, letterBytes};
 ghost use Rattle.show.specs.Filling.{toneIf, tonedAt, textFrom, roomText, textOut};
 use rules::NO_TONE;
 use rules::Place;
@@ -41,7 +41,7 @@ fn put_point(text: &mut [u8], at: usize, point: u16) -> usize
 // A letter with a tone on it, from a place of the text on; the place after it.
 fn put_marked(text: &mut [u8], at: usize, letter: u16, tone: u8) -> usize
     requires { ⌜ at + 3 ≤ length (now text) ⌝ }
-    ensures { λ r. ⌜ (r ≡ at + length (written letter tone)) × (now (text .exit) ≡ sets (now (text .entry)) at (written letter tone)) ⌝ }
+    ensures { λ r. ⌜ (r ≡ at + length (letterBytes letter tone)) × (now (text .exit) ≡ sets (now (text .entry)) at (letterBytes letter tone)) ⌝ }
 {
     put_point(text, at, letters::point(letter, tone))
 }
@@ -49,7 +49,7 @@ fn put_marked(text: &mut [u8], at: usize, letter: u16, tone: u8) -> usize
 // One letter, with the tone or with none. A plain small letter is its own byte, and most are such.
 fn put_letter(text: &mut [u8], at: usize, letter: u16, toned: bool, tone: u8) -> usize
     requires { ⌜ at + 3 ≤ length (now text) ⌝ }
-    ensures { λ r. ⌜ (r ≡ at + length (written letter (toneIf toned tone))) × (now (text .exit) ≡ sets (now (text .entry)) at (written letter (toneIf toned tone))) ⌝ }
+    ensures { λ r. ⌜ (r ≡ at + length (letterBytes letter (toneIf toned tone))) × (now (text .exit) ≡ sets (now (text .entry)) at (letterBytes letter (toneIf toned tone))) ⌝ }
 {
     if toned {
         return put_marked(text, at, letter, tone);

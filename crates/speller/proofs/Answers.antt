@@ -16,11 +16,11 @@ use Rattle.rules.specs.Refusals.{isMode, refusal}
 use Rattle.rules.specs.WhatComesBack.{Written, spell}
 use Rattle.rules.specs.declared.WriteAnswer.{WriteAnswer}
 use Rattle.output.specs.Front.{put}
-use Rattle.speller.specs.declared.Reading.{Reading}
-use Rattle.speller.specs.Held.{haveCapitals, ReadInto, refusedOf}
+use Rattle.speller.specs.declared.ReadSoFar.{ReadSoFar}
+use Rattle.speller.specs.TextRead.{haveCapitals, ReadInto, refusedOf}
 
 -- the letters that are read: the part of the array from 0 on is its front
-module _ {text ns : List ℕ} {r : Reading} (into : ReadInto text ns r) where
+module _ {text ns : List ℕ} {r : ReadSoFar} (into : ReadInto text ns r) where
   abbrev part : List ℕ
   part = take (r .count - 0) ns
 
@@ -64,7 +64,7 @@ module _ (m : ℕ) (text out : List ℕ) where
       written ss r z = simp (e, le-ltb mostBytes (length text) h, r, eq-eqb (fault ss) 0 z)
 
 -- by what is read of the text
-module _ (m : ℕ) (out : List ℕ) {text ns : List ℕ} {r : Reading} (e : not (isMode m) ≡ false) (h : length text ≤ mostBytes) (into : ReadInto text ns r) where
+module _ (m : ℕ) (out : List ℕ) {text ns : List ℕ} {r : ReadSoFar} (e : not (isMode m) ≡ false) (h : length text ≤ mostBytes) (into : ReadInto text ns r) where
   pub stuck-there : r .at < length text → spell m text out ≡ unwritten 6 (r .at) out
   stuck-there l = no-letter m text out e h (r .at) (into .stuck l)
 
@@ -76,5 +76,5 @@ module _ (m : ℕ) (out : List ℕ) {text ns : List ℕ} {r : Reading} (e : not 
     pub spelt : v ≡ 0 → (needed : ℕ) (keys : List ℕ) → take needed keys ≡ standardKeys m (map letter (take (r .count - 0) ns)) (r .tone) → put (take (needed - 0) keys) out ≡ spell m text out
     spelt z needed keys q =
         let front : needed - 0 ≡ needed = omega arith in
-        ap (λ (ks : List ℕ). put ks out) (ap (λ (n : ℕ). take n keys) front ∙ q ∙ ap₂ (standardKeys m) (letters-are into) (ap (λ (x : Reading). x .tone) (into .so-far .held))) ∙
+        ap (λ (ks : List ℕ). put ks out) (ap (λ (n : ℕ). take n keys) front ∙ q ∙ ap₂ (standardKeys m) (letters-are into) (ap (λ (x : ReadSoFar). x .tone) (into .so-far .held))) ∙
         sym (written m text out e h (into .so-far .signs) (into .whole l) (sym k ∙ z))

@@ -13,7 +13,7 @@ use Rattle.rules.specs.CodePoints.{Sign, withoutTone, signsAt, signs}
 use Rattle.rules.specs.Speller.{lettersIn, tonesIn, firstTone, toneIn, twoTones, sameTones, fault}
 use Rattle.rules.specs.declared.Place.{Place}
 use Rattle.rules.specs.declared.Place.the-variants.{At, Nowhere}
-use Rattle.speller.specs.Held.{oneOn, placeIn, samePlace}
+use Rattle.speller.specs.TextRead.{oneOn, placeIn, samePlace}
 use Rattle.speller.proofs.Tones.{tonesIf, placeIf, none-carried}
 
 -- with no tone on any letter

@@ -16,7 +16,7 @@ use Rattle.rules.proofs.Tests.{is-true}
 use Rattle.rules.specs.Letters.{Letters, plain, horn, noTone, telex, small, is}
 use Rattle.rules.specs.TheWord.{letter}
 use Rattle.rules.specs.Speller.{keyFor, keyOfLetter, shapeKey, letterKeys, toneKey, toneKeys, standardKeys}
-use Rattle.speller.specs.Held.{haveCapitals, keysFrom, firstAwaitsO}
+use Rattle.speller.specs.TextRead.{haveCapitals, keysFrom, firstAwaitsO}
 
 -- a number that a table of keys does not have
 abbrev pub marks : List (ℕ × ℕ) → List ℕ

@@ -12,8 +12,8 @@ use Rattle.rules.specs.CodePoints.{Sign}
 use Rattle.rules.specs.Speller.{tonesIn, firstTone, toneIn, twoTones}
 use Rattle.rules.specs.declared.Place.{Place}
 use Rattle.rules.specs.declared.Place.the-variants.{At, Nowhere}
-use Rattle.speller.specs.declared.Reading.{Reading}
-use Rattle.speller.specs.Held.{oneOn, placeIn, readingOf}
+use Rattle.speller.specs.declared.ReadSoFar.{ReadSoFar}
+use Rattle.speller.specs.TextRead.{oneOn, placeIn, readingOf}
 
 -- one letter in front of others
 abbrev pub tonesIf : Bool → ℕ → List ℕ → List ℕ
@@ -79,28 +79,28 @@ none-carried (x ∷ ss) e = go (eqb (x .tone) noTone) refl (none-carried ss) e
     go false k f h = absurd (eqb-false (x .tone) noTone k h)
 
 -- the reading with one letter more, by the tone on it and the tone before
-module _ (r : Reading) (ss : List Sign) (s : Sign) (t l : ℕ) (held : r ≡ readingOf (r .at) ss) (e : t ≡ s .tone) where
+module _ (r : ReadSoFar) (ss : List Sign) (s : Sign) (t l : ℕ) (held : r ≡ readingOf (r .at) ss) (e : t ≡ s .tone) where
   abbrev more : List Sign
   more = ss ++ (s ∷ [])
 
   count-more : r .count + 1 ≡ length more
-  count-more = ap (λ (z : Reading). z .count + 1) held ∙ sym (length-append ss (s ∷ []))
+  count-more = ap (λ (z : ReadSoFar). z .count + 1) held ∙ sym (length-append ss (s ∷ []))
 
   pub untoned : t ≡ noTone → record { at = r .at + l; count = r .count + 1; tone = r .tone; place = r .place; twice = r .twice } ≡ readingOf (r .at + l) more
   untoned z =
       let tones = sym (still-tones s (sym e ∙ z) ss) in
-      let place = ap (λ (x : Reading). x .place) held ∙ sym (still-place s (sym e ∙ z) ss) in
-      let tone = ap (λ (x : Reading). x .tone) held ∙ ap firstTone tones in
-      let twice = ap (λ (x : Reading). x .twice) held ∙ ap twoTones tones in
+      let place = ap (λ (x : ReadSoFar). x .place) held ∙ sym (still-place s (sym e ∙ z) ss) in
+      let tone = ap (λ (x : ReadSoFar). x .tone) held ∙ ap firstTone tones in
+      let twice = ap (λ (x : ReadSoFar). x .twice) held ∙ ap twoTones tones in
       λ j. record { at = r .at + l; count = count-more j; tone = tone j; place = place j; twice = twice j }
 
   pub toned-again : (t ≡ noTone → ⊥) → (r .tone ≡ noTone → ⊥)
       → record { at = r .at + l; count = r .count + 1; tone = r .tone; place = r .place; twice = true } ≡ readingOf (r .at + l) more
   toned-again n h =
-      let before : r .tone ≡ toneIn ss = ap (λ (x : Reading). x .tone) held in
+      let before : r .tone ≡ toneIn ss = ap (λ (x : ReadSoFar). x .tone) held in
       let some : (toneIn ss ≡ noTone → ⊥) = λ z. h (before ∙ z) in
       let tones = sym (one-tone-more s (λ z. n (e ∙ z)) ss) in
-      let place = ap (λ (x : Reading). x .place) held ∙ sym (place-stays ss s some) in
+      let place = ap (λ (x : ReadSoFar). x .place) held ∙ sym (place-stays ss s some) in
       let tone = before ∙ sym (first-stays (tonesIn ss) (s .tone ∷ []) some) ∙ ap firstTone tones in
       let twice = sym (two-then (tonesIn ss) (s .tone) some) ∙ ap twoTones tones in
       λ j. record { at = r .at + l; count = count-more j; tone = tone j; place = place j; twice = twice j }
@@ -108,9 +108,9 @@ module _ (r : Reading) (ss : List Sign) (s : Sign) (t l : ℕ) (held : r ≡ rea
   pub first-toned : (t ≡ noTone → ⊥) → r .tone ≡ noTone
       → record { at = r .at + l; count = r .count + 1; tone = t; place = At (r .count); twice = false } ≡ readingOf (r .at + l) more
   first-toned n h =
-      let none : tonesIn ss ≡ [] = none-carried ss (sym (ap (λ (x : Reading). x .tone) held) ∙ h) in
+      let none : tonesIn ss ≡ [] = none-carried ss (sym (ap (λ (x : ReadSoFar). x .tone) held) ∙ h) in
       let tones = ap (λ (ts : List ℕ). ts ++ (s .tone ∷ [])) (sym none) ∙ sym (one-tone-more s (λ z. n (e ∙ z)) ss) in
-      let place = ap (λ (x : Reading). At (x .count)) held ∙ sym (first-place s (λ z. n (e ∙ z)) ss none) in
+      let place = ap (λ (x : ReadSoFar). At (x .count)) held ∙ sym (first-place s (λ z. n (e ∙ z)) ss none) in
       let tone = e ∙ ap firstTone tones in
       let twice = ap twoTones tones in
       λ j. record { at = r .at + l; count = count-more j; tone = tone j; place = place j; twice = twice j }

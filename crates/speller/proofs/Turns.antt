@@ -19,13 +19,13 @@ use Rattle.letters.specs.declared.LetterRead as Code
 use Rattle.letters.specs.declared.LetterRead.the-variants.{NoLetter}
 use Rattle.letters.specs.Alphabet.{sameSign}
 use Rattle.letters.specs.Decoding.{decoded}
-use Rattle.letters.specs.Reading.{readOf, readAt}
+use Rattle.letters.specs.LettersRead.{readOf, readAt}
 use Rattle.rules.proofs.Tests.{is-true}
 use Rattle.letters.proofs.Fronts.{sign-eq, of-alphabet, decodes-back}
 use Rattle.letters.proofs.Agrees.{agree}
 use Rattle.letters.proofs.BackAndForth.{Stood, only-letters}
-use Rattle.speller.specs.declared.Reading.{Reading}
-use Rattle.speller.specs.Held.{readingOf, haveCapitals, SoFar, ReadInto}
+use Rattle.speller.specs.declared.ReadSoFar.{ReadSoFar}
+use Rattle.speller.specs.TextRead.{readingOf, haveCapitals, SoFar, ReadInto}
 
 -- each letter of the alphabet is read again from its number, has a capital, and has at least one byte
 abbrev stored : Sign → Bool
@@ -98,7 +98,7 @@ no-front noLetter e = refl
 no-front (aLetter s) e = let z : _≡_ {A = ℕ} 0 1 = cc in absurd (omega arith)
 
 -- the reading at a turn of the loop
-pub record Going (text ns : List ℕ) (r : Reading) : Type 0 where
+pub record Going (text ns : List ℕ) (r : ReadSoFar) : Type 0 where
   pub so-far : SoFar text ns r
   pub room : length ns ≡ mostBytes
   pub onward : read text ≡ after (so-far .signs) (readFrom 0 (r .at) (drop (r .at) text))
@@ -108,7 +108,7 @@ unfolding read
 begins text ns e =
     record { so-far = record { signs = []; held = refl; letters = refl; capitals = tt; fewer = omega arith; within = omega arith }; room = e; onward = refl }
 
-module _ {text ns : List ℕ} {r : Reading} (g : Going text ns r) where
+module _ {text ns : List ℕ} {r : ReadSoFar} (g : Going text ns r) where
   abbrev ss : List Sign
   ss = g .so-far .signs
 
@@ -133,7 +133,7 @@ module _ {text ns : List ℕ} {r : Reading} (g : Going text ns r) where
   -- a letter that is read
   module _ (l : r .at < length text) {n t k : ℕ} (e : readAt text (r .at) ≡ Code.LetterRead.Letter n t k) where
     -- what `with_letter` ensures of the next reading
-    abbrev Longer : Reading → Type 0
+    abbrev Longer : ReadSoFar → Type 0
     Longer next = (us : List Sign) (s : Sign) → r ≡ readingOf (r .at) us → t ≡ s .tone → next ≡ readingOf (r .at + k) (us ++ (s ∷ []))
 
     there : Stood text (r .at) n t k
@@ -159,19 +159,19 @@ module _ {text ns : List ℕ} {r : Reading} (g : Going text ns r) where
     abbrev more : List Sign
     more = ss ++ (read-there ∷ [])
 
-    longer : (next : Reading) → Longer next → next ≡ readingOf (r .at + k) more
+    longer : (next : ReadSoFar) → Longer next → next ≡ readingOf (r .at + k) more
     longer next law = law ss read-there (g .so-far .held) (sym (there .tone-is))
 
-    pub moves-on : (next : Reading) → Longer next → next .at ≡ r .at + k
-    moves-on next law = ap (λ (x : Reading). x .at) (longer next law)
+    pub moves-on : (next : ReadSoFar) → Longer next → next .at ≡ r .at + k
+    moves-on next law = ap (λ (x : ReadSoFar). x .at) (longer next law)
 
-    pub one-more : (next : Reading) → Longer next → length text ≤ mostBytes → Going text (set ns (r .count) n) next
+    pub one-more : (next : ReadSoFar) → Longer next → length text ≤ mostBytes → Going text (set ns (r .count) n) next
     one-more next law few =
         let before = g .so-far in
-        let count : r .count ≡ length ss = ap (λ (x : Reading). x .count) (before .held) in
+        let count : r .count ≡ length ss = ap (λ (x : ReadSoFar). x .count) (before .held) in
         let counted : length more ≡ suc (r .count) = length-append ss (read-there ∷ []) ∙ add-one (length ss) ∙ ap suc (sym count) in
         let here : r .count < length ns = omega (arith, g .room, before .fewer) in
-        subst (λ (x : Reading). Going text (set ns (r .count) n) x) (sym (longer next law))
+        subst (λ (x : ReadSoFar). Going text (set ns (r .count) n) x) (sym (longer next law))
         (record {
           so-far = record {
             signs = more;

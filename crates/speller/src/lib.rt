@@ -4,16 +4,15 @@ ghost use mathlib.Core.List.{List, map, _++_, _∷_, []};
 ghost use Prim.Native.Nat.{ℕ, _+_, _*_, _<_, _≤_};
 ghost use lib.Dec.{T};
 ghost use lib.ListN.{length, take, drop};
-ghost use Rattle.rules.specs.Letters.{horn, small, is};
+ghost use Rattle.rules.specs.Letters.{is};
 ghost use Rattle.rules.specs.TheWord.{mostBytes, letter};
 ghost use Rattle.rules.specs.CodePoints.{Sign};
 ghost use Rattle.rules.specs.Speller.{keyOfLetter, shapeKey, toneKey, standardKeys, lettersIn, fault as faultOf};
 ghost use Rattle.rules.specs.WhatComesBack.{spell as spellOf};
-ghost use Rattle.speller.specs.Held.{readingOf, haveCapitals, ReadInto, samePlace, keysFrom, firstAwaitsO, refusedOf};
+ghost use Rattle.speller.specs.TextRead.{readingOf, haveCapitals, ReadInto, samePlace, keysFrom, firstAwaitsO, refusedOf};
 use letters::LetterRead;
 use rules::ACUTE;
 use rules::BREVE;
-use rules::CAPITAL;
 use rules::CIRCUMFLEX;
 use rules::DOT;
 use rules::GRAVE;
@@ -32,7 +31,7 @@ use rules::WriteAnswer;
 const MOST_KEYS: usize = 2 * Word::TEXT + 1;
 
 // A text as far as it is read: how many bytes and letters; the first tone, the place of the letter that carries it, and whether another letter carries one.
-struct Reading {
+struct ReadSoFar {
     at: usize,
     count: usize,
     tone: u8,
@@ -41,7 +40,7 @@ struct Reading {
 }
 
 // The reading with one letter more, with this tone on it and so many bytes long.
-fn with_letter(r: Reading, tone: u8, length: usize) -> Reading
+fn with_letter(r: ReadSoFar, tone: u8, length: usize) -> ReadSoFar
     requires { ⌜ (r .at + length ≤ mostBytes) × (r .count < mostBytes) ⌝ }
     ensures { λ n. ⌜ ((ss : List Sign) (s : Sign) → r ≡ readingOf (r .at) ss → tone ≡ s .tone → n ≡ readingOf (r .at + length) (ss ++ (s ∷ []))) ⌝ }
 {
@@ -55,7 +54,7 @@ fn with_letter(r: Reading, tone: u8, length: usize) -> Reading
         next.twice = true;
         return next;
     }
-    Reading {
+    ReadSoFar {
         at: next.at,
         count: next.count,
         tone: tone,
@@ -65,11 +64,11 @@ fn with_letter(r: Reading, tone: u8, length: usize) -> Reading
 }
 
 // Reads the letters to the end of the text, or up to the first byte where no letter of the alphabet starts.
-fn read(text: &[u8], letters: &mut [u16]) -> Reading
+fn read(text: &[u8], letters: &mut [u16]) -> ReadSoFar
     requires { ⌜ (length (now text) ≤ mostBytes) × (length (now letters) ≡ mostBytes) ⌝ }
     ensures { λ r. ⌜ ReadInto (now (text .entry)) (now (letters .exit)) r ⌝ }
 {
-    let mut r = Reading {
+    let mut r = ReadSoFar {
         at: 0,
         count: 0,
         tone: NO_TONE,
@@ -109,7 +108,7 @@ fn same_place(a: Place, b: Place) -> bool
 }
 
 // Not a syllable as shown: 8 if two letters carry a tone; else the verdict 1 to 7; else 9 if the tone stands on another letter; 0 a syllable as shown.
-fn fault(r: Reading, letters: &[u16]) -> u8
+fn fault(r: ReadSoFar, letters: &[u16]) -> u8
     ensures { λ n. ⌜ ((ss : List Sign) (at : ℕ) → r ≡ readingOf at ss → map letter (now (letters .entry)) ≡ lettersIn ss → n ≡ faultOf ss) ⌝ }
 {
     if r.twice {
@@ -131,8 +130,8 @@ fn key_of_letter(x: u16) -> u8
     requires { ⌜ 32 ≤ letter x .base ⌝ }
     ensures { λ r. ⌜ r ≡ keyOfLetter (letter x) ⌝ }
 {
-    let base = parts::base(x);
-    if x / CAPITAL % 2 == 1 {
+    let base = rules::base(x);
+    if rules::is_capital(x) {
         return base - 32;
     }
     base
@@ -142,10 +141,10 @@ fn key_of_letter(x: u16) -> u8
 fn shape_key(mode: u8, x: u16) -> u8
     ensures { λ r. ⌜ r ≡ shapeKey mode (letter x) ⌝ }
 {
-    let shape = parts::shape(x);
+    let shape = rules::shape(x);
     if mode == Word::TELEX {
         match shape {
-            CIRCUMFLEX => parts::base(x),
+            CIRCUMFLEX => rules::base(x),
             HORN => b'w',
             BREVE => b'w',
             STROKE => b'd',
@@ -187,12 +186,6 @@ fn tone_key(mode: u8, tone: u8) -> u8
     }
 }
 
-fn is_horned(x: u16, base: u8) -> bool
-    ensures { λ r. ⌜ r ≡ is (letter x) (small base horn) ⌝ }
-{
-    (x % 256 == base as u16) & (x / 256 % 8 == HORN as u16)
-}
-
 // One horn key after the o of ươ: a ư directly before an ơ has no key of its own.
 fn awaits_o(letters: &[u16], i: usize) -> bool
     requires { ⌜ i < length (now letters) ⌝ }
@@ -202,7 +195,7 @@ fn awaits_o(letters: &[u16], i: usize) -> bool
     if letters.len() <= next {
         return false;
     }
-    is_horned(letters[i], b'u') & is_horned(letters[next], b'o')
+    rules::is(letters[i], b'u', HORN) & rules::is(letters[next], b'o', HORN)
 }
 
 // Puts a letter in its case, and its shape or stroke key directly after it. Answers the place behind them.
@@ -214,7 +207,7 @@ fn put_letter(mode: u8, letters: &[u16], i: usize, keys: &mut [u8], at: usize) -
     let own = key_of_letter(x);
     let mark = shape_key(mode, x);
     keys[at] = own;
-    if (parts::shape(x) == PLAIN) | awaits_o(letters, i) {
+    if (rules::shape(x) == PLAIN) | awaits_o(letters, i) {
         return at + 1;
     }
     keys[at + 1] = mark;
@@ -252,7 +245,7 @@ fn refused(number: u8, value: usize) -> WriteAnswer
 pub fn spell(mode: u8, text: &[u8], out: &mut [u8]) -> WriteAnswer
     ensures { λ r. ⌜ (r ≡ spellOf mode (now (text .entry)) (now (out .entry)) .answer) × (now (out .exit) ≡ spellOf mode (now (text .entry)) (now (out .entry)) .output) ⌝ }
 {
-    if !((mode == Word::TELEX) | (mode == Word::VNI)) {
+    if !keys::is_mode(mode) {
         return refused(1, 0);
     }
     let n = text.len();

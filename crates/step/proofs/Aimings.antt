@@ -16,7 +16,7 @@ use Rattle.targets.specs.Aims.{oneAt, pairAt}
 use Rattle.targets.proofs.Finds.{last-is, horned-pair, horned-single}
 use Rattle.targets.proofs.Within.{last-within, single-within, pair-within}
 use Rattle.step.specs.declared.Edit.{Edit}
-use Rattle.step.specs.Held.{Given, Aimed, Edits}
+use Rattle.step.specs.LentLetters.{LettersInFront, LetterThere, Edits}
 use Rattle.step.proofs.Arrays.{is-front}
 
 abbrev part : List ℕ → ℕ → Letters
@@ -39,7 +39,7 @@ module _ (want : ℕ → Bool) (l : List ℕ) (n kind : ℕ) where
   pub last-at : {p : Place} → lastPlace want (part l n) ≡ p → last want kind (front l n) ≡ oneAt kind p (front l n)
   last-at e = last-is want kind (front l n) ∙ ap (λ (p : Place). oneAt kind p (front l n)) (in-front e)
 
-  pub last-aimed : {i : ℕ} → Given l n → kind < 8 → lastPlace want (part l n) ≡ At i → Aimed l n i kind
+  pub last-aimed : {i : ℕ} → LettersInFront l n → kind < 8 → lastPlace want (part l n) ≡ At i → LetterThere l n i kind
   last-aimed g k e = record { given = g; inside = omega (arith, last-within want (front l n) (in-front e), count-of l n); shape = k }
 
 module _ (l : List ℕ) (n : ℕ) where
@@ -52,11 +52,11 @@ module _ (l : List ℕ) (n : ℕ) where
   pub horn-pair : {i : ℕ} → pairPlace false (part l n) ≡ At i → horned (front l n) ≡ pairAt (At i) (front l n)
   horn-pair e = horned-pair (front l n) (pair-in-front e)
 
-  pub pair-aimed : {i : ℕ} → Given l n → pairPlace false (part l n) ≡ At i → Aimed l n (i + 1) horn
+  pub pair-aimed : {i : ℕ} → LettersInFront l n → pairPlace false (part l n) ≡ At i → LetterThere l n (i + 1) horn
   pair-aimed {i} g e = record { given = g; inside = omega (arith, pair-within false (front l n) (pair-in-front e), count-of l n); shape = lit< tt }
 
   pub horn-single : {p : Place} → pairPlace false (part l n) ≡ Nowhere → singlePlace false (part l n) ≡ p → horned (front l n) ≡ oneAt horn p (front l n)
   horn-single e f = horned-single (front l n) (pair-in-front e) (single-in-front f)
 
-  pub single-aimed : {i : ℕ} → Given l n → singlePlace false (part l n) ≡ At i → Aimed l n i horn
+  pub single-aimed : {i : ℕ} → LettersInFront l n → singlePlace false (part l n) ≡ At i → LetterThere l n i horn
   single-aimed g e = record { given = g; inside = omega (arith, single-within false (front l n) (single-in-front e), count-of l n); shape = lit< tt }

@@ -10,8 +10,9 @@ use Rattle.rules.specs.Letters.{Letter, Letters}
 use Rattle.rules.specs.TheWord.{letter, number, atFront}
 use Rattle.rules.specs.KeyRoles.{shaped}
 use Rattle.rules.proofs.StaysInRange.{read-front}
-use Rattle.rules.proofs.Numbers.{of-number, AllFine, letters-numbers}
-use Rattle.step.specs.Held.{Canonical, Given}
+use Rattle.rules.specs.LettersOfAMode.{AllFine}
+use Rattle.rules.proofs.Numbers.{of-number, letters-numbers}
+use Rattle.step.specs.LentLetters.{Canonical, LettersInFront}
 use Rattle.targets.specs.Aims.{reshape, shapeAt}
 
 -- the numbers with another shape at a place
@@ -53,7 +54,7 @@ shape-at (n ∷ ns) (suc i) h = shape-at ns i (omega arith)
 reshaped-letter : (n sh : ℕ) → sh < 8 → letter (number (shaped sh (letter n))) ≡ shaped sh (letter n)
 reshaped-letter n sh h = of-number (n % 256) sh (letter n .capital) (omega arith) h
 
-module _ (l : List ℕ) (n : ℕ) (given : Given l n) where
+module _ (l : List ℕ) (n : ℕ) (given : LettersInFront l n) where
   abbrev word : Letters
   word = map letter (take n l)
 
@@ -77,7 +78,7 @@ module _ (l : List ℕ) (n : ℕ) (given : Given l n) where
       let v = number (shaped sh (letter (getD l i 0))) in
       ap (map letter) (take-set-lt n l i v h) ∙ letter-reshape (take n l) i sh v (reshaped-letter (getD l i 0) sh s ∙ ap (λ (k : ℕ). shaped sh (letter k)) (sym (getD-take n l i 0 h)))
 
-  pub still-given : (i sh : ℕ) → i < n → sh < 8 → Given (reshapedAt l i sh) n
+  pub still-given : (i sh : ℕ) → i < n → sh < 8 → LettersInFront (reshapedAt l i sh) n
   still-given i sh h s =
       record {
         whole = simp length-set (given .whole);

@@ -17,7 +17,8 @@ use Rattle.rules.specs.declared.Act.{Act}
 use Rattle.rules.specs.declared.Outcome.{Outcome}
 use Rattle.rules.specs.declared.Outcome.the-variants.{Acted, Undone, Appended}
 use Rattle.rules.proofs.Edits.{Alike, Good, good-none, good-off, good, length-alike}
-use Rattle.rules.proofs.Numbers.{AllFine, fine-alike}
+use Rattle.rules.specs.LettersOfAMode.{AllFine}
+use Rattle.rules.proofs.Numbers.{fine-alike}
 use Rattle.rules.proofs.Records.{front-front}
 use Rattle.rules.proofs.Outcome as Outcomes
 use Rattle.step.specs.declared.Edit.{Edit}
@@ -25,12 +26,12 @@ use Rattle.step.specs.declared.Edit.the-variants.{Nothing, Off, Change}
 use Rattle.step.specs.declared.Rest.{Rest}
 use Rattle.step.specs.declared.Counts.{Counts}
 use Rattle.step.specs.declared.Done as Answer
-use Rattle.step.specs.Held.{Given, Room, Leaves, Does, Edits, kindOf, editedIn, stateIn, afterEdit, withTone, countedIn}
+use Rattle.step.specs.LentLetters.{LettersInFront, RoomForLetter, LeavesState, DoesAsRuled, Edits, kindOf, editedIn, stateIn, afterEdit, withTone, countedIn}
 use Rattle.step.proofs.Edit as Kinds
 use Rattle.step.proofs.Arrays.{within, added, front-letters, front-canonical}
 
 -- the same letters, written again
-module _ (l : List ℕ) (rest : Rest) (given : Given l (rest .count)) where
+module _ (l : List ℕ) (rest : Rest) (given : LettersInFront l (rest .count)) where
   letters-read : length (map letter (take (rest .count) l)) ≡ rest .count
   letters-read = length-map (take (rest .count) l) letter ∙ length-take-le (rest .count) l (within l (rest .count) given)
 
@@ -39,16 +40,16 @@ module _ (l : List ℕ) (rest : Rest) (given : Given l (rest .count)) where
       ap (λ (m : List ℕ). atFront m l) (given .canonical) ∙ ap (λ (k : ℕ). take (rest .count) l ++ drop k l) (length-take-le (rest .count) l (within l (rest .count) given)) ∙
       take-append-drop (rest .count) l
 
-  pub same : Leaves (stateIn l rest) l rest l
+  pub same : LeavesState (stateIn l rest) l rest l
   same = record { beside = λ i. record { count = sym letters-read i; tone = rest .tone; closed = rest .closed }; left = sym same-array }
 
-  pub tones : (t : ℕ) {r : Rest} → r ≡ withTone rest t → Leaves (Rules.withTone (stateIn l rest) t) l r l
+  pub tones : (t : ℕ) {r : Rest} → r ≡ withTone rest t → LeavesState (Rules.withTone (stateIn l rest) t) l r l
   tones t e = record { beside = e ∙ ap (λ (x : Rest). withTone x t) (same .beside); left = same .left }
 
 -- a letter more
-module _ (l : List ℕ) (rest : Rest) (room : Room l (rest .count)) where
+module _ (l : List ℕ) (rest : Rest) (room : RoomForLetter l (rest .count)) where
   pub appends : (x : Letter) (v : ℕ) → v ≡ number x →
-      Leaves (append (stateIn l rest) x) l (record { count = rest .count + 1; tone = rest .tone; closed = rest .closed }) (set l (rest .count) v)
+      LeavesState (append (stateIn l rest) x) l (record { count = rest .count + 1; tone = rest .tone; closed = rest .closed }) (set l (rest .count) v)
   appends x v e =
       let n : rest .count + 1 ≡ length (stateIn l rest .letters ++ (x ∷ [])) = simp length-append (omega (arith, letters-read l rest (room .given))) in
       record {
@@ -59,28 +60,28 @@ module _ (l : List ℕ) (rest : Rest) (room : Room l (rest .count)) where
       }
 
 -- what is left, with its outcome
-pub as-acted : (a : Act) {s : State} {l : List ℕ} {r : Rest} {m : List ℕ} → Leaves s l r m → Does (acted a s) l (record { outcome = Acted a; rest = r }) m
+pub as-acted : (a : Act) {s : State} {l : List ℕ} {r : Rest} {m : List ℕ} → LeavesState s l r m → DoesAsRuled (acted a s) l (record { outcome = Acted a; rest = r }) m
 as-acted a p = record { told = ap (λ (x : Rest). record { outcome = Acted a; rest = x }) (p .beside); left = p .left }
 
-pub as-appended : {s : State} {l : List ℕ} {r : Rest} {m : List ℕ} → Leaves s l r m → Does (appended s) l (record { outcome = Appended; rest = r }) m
+pub as-appended : {s : State} {l : List ℕ} {r : Rest} {m : List ℕ} → LeavesState s l r m → DoesAsRuled (appended s) l (record { outcome = Appended; rest = r }) m
 as-appended p = record { told = ap (λ (x : Rest). record { outcome = Appended; rest = x }) (p .beside); left = p .left }
 
 abbrev closed : Rest → Rest
 closed r = record { count = r .count; tone = r .tone; closed = true }
 
-pub as-undone : {s : State} {l : List ℕ} {r : Rest} {m : List ℕ} → Leaves s l r m → Does (undone (close s)) l (record { outcome = Undone; rest = closed r }) m
+pub as-undone : {s : State} {l : List ℕ} {r : Rest} {m : List ℕ} → LeavesState s l r m → DoesAsRuled (undone (close s)) l (record { outcome = Undone; rest = closed r }) m
 as-undone p = record { told = ap (λ (x : Rest). record { outcome = Undone; rest = closed x }) (p .beside); left = p .left }
 
-pub as-ruled : {d e : Done} {l : List ℕ} {r : Answer.Done} {m : List ℕ} → d ≡ e → Does e l r m → Does d l r m
-as-ruled {d} {e} {l} {r} {m} p q = subst (λ (x : Done). Does x l r m) (sym p) q
+pub as-ruled : {d e : Done} {l : List ℕ} {r : Answer.Done} {m : List ℕ} → d ≡ e → DoesAsRuled e l r m → DoesAsRuled d l r m
+as-ruled {d} {e} {l} {r} {m} p q = subst (λ (x : Done). DoesAsRuled x l r m) (sym p) q
 
 -- the letters after an edit, and what the key then does
-module _ (mode : ℕ) (l : List ℕ) (rest : Rest) (room : Room l (rest .count)) (fine : AllFine mode (stateIn l rest .letters)) where
+module _ (mode : ℕ) (l : List ℕ) (rest : Rest) (room : RoomForLetter l (rest .count)) (fine : AllFine mode (stateIn l rest .letters)) where
   module _ (ws : Letters) {changed : ℕ → Bool} (a : Alike changed (stateIn l rest .letters) ws) where
     as-many : length ws ≡ rest .count
     as-many = sym (length-alike a) ∙ letters-read l rest (room .given)
 
-    room-for : Room (atFront (map number ws) l) (rest .count)
+    room-for : RoomForLetter (atFront (map number ws) l) (rest .count)
     room-for =
         record {
           given =
@@ -96,24 +97,24 @@ module _ (mode : ℕ) (l : List ℕ) (rest : Rest) (room : Room l (rest .count))
     state-then = ap (Rules.withLetters (stateIn l rest)) (front-letters l (rest .count) ws (fine-alike a fine) as-many)
 
     over : (f : State → Done) {r : Answer.Done} {m : List ℕ} → length ws ≤ length (stateOf (f (Rules.withLetters (stateIn l rest) ws)) .letters) →
-        Does (f (stateIn (atFront (map number ws) l) rest)) (atFront (map number ws) l) r m → Does (f (Rules.withLetters (stateIn l rest) ws)) l r m
+        DoesAsRuled (f (stateIn (atFront (map number ws) l) rest)) (atFront (map number ws) l) r m → DoesAsRuled (f (Rules.withLetters (stateIn l rest) ws)) l r m
     over f {r} {m} h p =
-        let q = subst (λ (s : State). Does (f s) (atFront (map number ws) l) r m) state-then p in
+        let q = subst (λ (s : State). DoesAsRuled (f s) (atFront (map number ws) l) r m) state-then p in
         record { told = q .told; left = q .left ∙ front-front (map number (stateOf (f (Rules.withLetters (stateIn l rest) ws)) .letters)) (map number ws) l (simp length-map h) }
 
-  pub room-after : {d : Rules.Edit} {e : Edit} {m : List ℕ} → Good (stateIn l rest .letters) d → Edits d l e m → Room m (rest .count)
-  room-after g p = subst (λ (k : List ℕ). Room k (rest .count)) (sym (p .left)) (go g)
+  pub room-after : {d : Rules.Edit} {e : Edit} {m : List ℕ} → Good (stateIn l rest .letters) d → Edits d l e m → RoomForLetter m (rest .count)
+  room-after g p = subst (λ (k : List ℕ). RoomForLetter k (rest .count)) (sym (p .left)) (go g)
     where
-      go : {d : Rules.Edit} → Good (stateIn l rest .letters) d → Room (editedIn l d) (rest .count)
+      go : {d : Rules.Edit} → Good (stateIn l rest .letters) d → RoomForLetter (editedIn l d) (rest .count)
       go good-none = room
       go (good-off c {w = ws} a) = room-for ws a
       go (good c {w = ws} a q h) = room-for ws a
 
-  pub edit-then : {d : Rules.Edit} {e : Edit} {m m′ : List ℕ} {r : Answer.Done} (k : Letter) → Good (stateIn l rest .letters) d → Edits d l e m → Does (afterEdit e (stateIn m rest) k) m r m′ → Does (editDoes d (stateIn l rest) k) l r m′
+  pub edit-then : {d : Rules.Edit} {e : Edit} {m m′ : List ℕ} {r : Answer.Done} (k : Letter) → Good (stateIn l rest .letters) d → Edits d l e m → DoesAsRuled (afterEdit e (stateIn m rest) k) m r m′ → DoesAsRuled (editDoes d (stateIn l rest) k) l r m′
   edit-then {d = d′} {m = m} {m′ = m′} {r = r} k g p q =
-      go g (subst (λ (x : List ℕ). Does (afterEdit (kindOf d′) (stateIn x rest) k) x r m′) (p .left) (subst (λ (x : Edit). Does (afterEdit x (stateIn m rest) k) m r m′) (p .told) q))
+      go g (subst (λ (x : List ℕ). DoesAsRuled (afterEdit (kindOf d′) (stateIn x rest) k) x r m′) (p .left) (subst (λ (x : Edit). DoesAsRuled (afterEdit x (stateIn m rest) k) m r m′) (p .told) q))
     where
-      go : {d : Rules.Edit} → Good (stateIn l rest .letters) d → Does (afterEdit (kindOf d) (stateIn (editedIn l d) rest) k) (editedIn l d) r m′ → Does (editDoes d (stateIn l rest) k) l r m′
+      go : {d : Rules.Edit} → Good (stateIn l rest .letters) d → DoesAsRuled (afterEdit (kindOf d) (stateIn (editedIn l d) rest) k) (editedIn l d) r m′ → DoesAsRuled (editDoes d (stateIn l rest) k) l r m′
       go good-none x = x
       go (good-off c {w = ws} a) x = over ws a (λ s. undone (Rules.undo s k)) (simp length-append (omega arith)) x
       go (good c {a = act} {w = ws} a q h) x = over ws a (acted act) (omega arith) x

@@ -9,28 +9,40 @@ use lib.Dec.{T}
 use lib.ListN.{length, take, drop, set, length-append}
 use lib.Seq.{length-take-le, set-split}
 use borrow.Author.Tests.{lt-ltb, le-ltb}
-use Rattle.rules.specs.TheWord.{Done, mostKeys, atFront, wordOf}
+use Rattle.rules.specs.TheWord.{Done, outcomeOf, mostKeys, atFront, wordOf, holding, counted}
 use Rattle.rules.specs.KeyRoles.{isKey, keyDoes}
 use Rattle.rules.specs.Refusals.{placeOfByte, outOfRange, refusal}
 use Rattle.rules.specs.WhatComesBack.{step}
 use Rattle.rules.specs.declared.Word.{Word}
 use Rattle.rules.specs.declared.Step.{Step}
 use Rattle.rules.specs.declared.StepAnswer.the-variants.{Did, Refused}
+use Rattle.rules.specs.LettersOfAMode.{AllFine}
 use Rattle.rules.proofs.Numbers.{numbers-letters, fine-letters}
 use Rattle.rules.proofs.Range.{InRange, in-range}
 use Rattle.step.specs.declared.Counts.{Counts}
 use Rattle.step.specs.declared.Done as Answer
-use Rattle.step.specs.Held.{Ready, Room, Does, countedIn, didOf}
+use Rattle.step.specs.LentLetters.{Canonical, RoomForLetter, DoesAsRuled, countedIn}
 
 pub in-range-of : (w : Word) → outOfRange w ≡ false → InRange w
 in-range-of w e = in-range w (subst (λ (b : Bool). T (not b)) (sym e) tt)
 
+-- a record with room for a key, whose letters are letters of its mode
+pub record RoomForKey (w : Word) : Type 0 where
+  pub room : w .typed < mostKeys
+  pub fewer : w .count ≤ w .typed
+  pub canonical : Canonical (take (w .count) (w .letters))
+  pub fine : AllFine (w .mode) (wordOf w .state .letters)
+
+-- the step's answer where it is not refused
+abbrev pub didOf : Word → ℕ → Done → Step
+didOf w k d = record { answer = Did (outcomeOf d); word = holding w (counted (wordOf w) k d) }
+
 -- a record in range with room for a key is ready for it
-pub ready : (w : Word) → InRange w → w .typed < mostKeys → Ready w
+pub ready : (w : Word) → InRange w → w .typed < mostKeys → RoomForKey w
 ready w r h = record { room = h; fewer = r .fewer; canonical = numbers-letters (w .mode) (take (w .count) (w .letters)) (r .letters .allowed); fine = fine-letters (take (w .count) (w .letters)) (r .letters) }
 
 -- and so are its letters
-pub room-in : (w : Word) → Ready w → length (w .letters) ≡ mostKeys → Room (w .letters) (w .count)
+pub room-in : (w : Word) → RoomForKey w → length (w .letters) ≡ mostKeys → RoomForLetter (w .letters) (w .count)
 room-in w r whole =
     record {
       given = record { whole = whole; fits = omega (arith, r .room, r .fewer); canonical = r .canonical };
@@ -71,7 +83,7 @@ module _ (w : Word) (k : ℕ) (room : w .typed < mostKeys) (whole : length (w .k
             };
       }
 
-  pub kept : (d : Done) {x : Answer.Done} {l : List ℕ} {n : Counts} → Does d (w .letters) x l → n ≡ countedIn counts (x .outcome) → together x l n (set (w .keys) (w .typed) k) (w .typed + 1) ≡ didOf w k d
+  pub kept : (d : Done) {x : Answer.Done} {l : List ℕ} {n : Counts} → DoesAsRuled d (w .letters) x l → n ≡ countedIn counts (x .outcome) → together x l n (set (w .keys) (w .typed) k) (w .typed + 1) ≡ didOf w k d
   kept d p e =
       let c = e ∙ ap (λ (y : Answer.Done). countedIn counts (y .outcome)) (p .told) in
       λ i. together (p .told i) (p .left i) (c i) (keys-kept i) (typed-then i)

@@ -18,7 +18,7 @@ use Rattle.rules.specs.declared.Act.the-variants.{Shape}
 use Rattle.rules.specs.declared.Place.the-variants.{At}
 use Rattle.targets.specs.Aims.{reshape, shapeAt, oneAt, bothReshaped, pairAt}
 use Rattle.step.specs.declared.Edit.the-variants.{Nothing, Off, Change}
-use Rattle.step.specs.Held.{Given, Aimed, Edits, paired}
+use Rattle.step.specs.LentLetters.{LettersInFront, LetterThere, Edits, paired}
 use Rattle.step.proofs.Arrays.{reshapedAt, is-front, within, shape-at, length-reshape, stored, read-stored, still-given}
 
 -- a mark taken off
@@ -37,7 +37,7 @@ module _ (l on : List ℕ) (n kind : ℕ) (v w : Letters) {there : Bool} (e : th
   put-back t back s = subst (λ (d : Rules.Edit). Edits d l Nothing back) (sym (ruled t)) (record { told = refl; left = s })
 
 -- a letter in the place of which another shape is stored
-module _ (l : List ℕ) (n i kind : ℕ) (aimed : Aimed l n i kind) where
+module _ (l : List ℕ) (n i kind : ℕ) (aimed : LetterThere l n i kind) where
   abbrev word : Letters
   word = map letter (take n l)
 
@@ -73,7 +73,7 @@ same-behind : (new l : List ℕ) (i v : ℕ) → i < length new → atFront new 
 same-behind new l i v h = ap (_++_ new) (drop-set-lt (length new) l i v h)
 
 -- a letter and the next
-module _ (l : List ℕ) (n i kind : ℕ) (aimed : Aimed l n (i + 1) kind) where
+module _ (l : List ℕ) (n i kind : ℕ) (aimed : LetterThere l n (i + 1) kind) where
   abbrev letters : Letters
   letters = map letter (take n l)
 
@@ -86,7 +86,7 @@ module _ (l : List ℕ) (n i kind : ℕ) (aimed : Aimed l n (i + 1) kind) where
   abbrev both : List ℕ
   both = reshapedAt first (i + 1) kind
 
-  first-given : Given first n
+  first-given : LettersInFront first n
   first-given = still-given l n (aimed .given) i kind before (aimed .shape)
 
   both-letters : reshape (i + 1) kind (map letter (take n first)) ≡ bothReshaped i kind letters
@@ -121,11 +121,11 @@ paired-back l i v x =
     set-set (set (set l i v) i u) (i + 1) x o ∙ ap (λ (m : List ℕ). set m (i + 1) o) (set-set l i v u ∙ set-getD l i 0) ∙ set-getD l (i + 1) 0
 
 -- the horn's pair
-module _ (l : List ℕ) (n i : ℕ) (aimed : Aimed l n (i + 1) horn) where
-  at-plain : Aimed l n (i + 1) plain
+module _ (l : List ℕ) (n i : ℕ) (aimed : LetterThere l n (i + 1) horn) where
+  at-plain : LetterThere l n (i + 1) plain
   at-plain = record { given = aimed .given; inside = aimed .inside; shape = lit< tt }
 
-  at-first : Aimed l n i horn
+  at-first : LetterThere l n i horn
   at-first = record { given = aimed .given; inside = omega (arith, aimed .inside); shape = aimed .shape }
 
   abbrev shapes : Bool

@@ -14,7 +14,7 @@ use Rattle.rules.specs.KeyRoles.{shaped, Edit, off, change, onlyIf, first, stro
 use Rattle.rules.specs.declared.Act.the-variants.{Stroke}
 use Rattle.targets.specs.Aims.{reshape}
 use Rattle.step.specs.declared.Edit.the-variants.{Nothing, Off, Change}
-use Rattle.step.specs.Held.{Given, Edits, dee}
+use Rattle.step.specs.LentLetters.{LettersInFront, Edits, dee}
 use Rattle.step.proofs.Arrays.{within, stored}
 
 -- the first letter, and the others
@@ -30,7 +30,7 @@ first-of (x ∷ l) (suc zero) h k = record { others = []; split = refl; alone = 
 first-of (x ∷ []) (suc (suc m)) h k = absurd (omega arith)
 first-of (x ∷ y ∷ l) (suc (suc m)) h k = record { others = letter y ∷ map letter (take m l); split = refl; alone = sym (ne-eqb (suc (suc m)) 1 (λ e. omega arith)) }
 
-module _ (l : List ℕ) (n : ℕ) (given : Given l n) (some : 0 < n) where
+module _ (l : List ℕ) (n : ℕ) (given : LettersInFront l n) (some : 0 < n) where
   abbrev x : Letter
   x = letter (getD l 0 0)
 

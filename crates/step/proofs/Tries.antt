@@ -10,7 +10,7 @@ use Rattle.rules.specs.KeyRoles as Rules
 use Rattle.rules.specs.KeyRoles.{nothing, off, change, first}
 use Rattle.step.specs.declared.Edit.{Edit}
 use Rattle.step.specs.declared.Edit.the-variants.{Nothing}
-use Rattle.step.specs.Held.{kindOf, editedIn, Edits}
+use Rattle.step.specs.LentLetters.{kindOf, editedIn, Edits}
 use Rattle.step.proofs.Edit.{the-type}
 
 -- no edit

@@ -1,25 +1,9 @@
 -- A word whose letters and keys are lent beside its mode and numbers: the record that these are, and the step's answer read off what it left of them.
 use mathlib.Core.List.{List}
 use Prim.Native.Nat.{ℕ}
-use Rattle.rules.specs.declared.Word.{Word}
 use Rattle.rules.specs.declared.Step.{Step}
-use Rattle.records.specs.declared.Numbers.{Numbers}
+use Rattle.records.specs.Numbers.{wordIn}
 use Rattle.step.specs.declared.StepIn.{StepIn}
-
-abbrev pub wordIn : ℕ → List ℕ → List ℕ → Numbers → Word
-wordIn mode letters keys n =
-    record {
-      mode = mode;
-      letters = letters;
-      count = n .count;
-      tone = n .tone;
-      closed = n .closed;
-      keys = keys;
-      typed = n .typed;
-      acted = n .acted;
-      undone = n .undone;
-      appended = n .appended;
-    }
 
 abbrev pub stepIn : ℕ → List ℕ → List ℕ → StepIn → Step
 stepIn mode letters keys r = record { answer = r .answer; word = wordIn mode letters keys (r .numbers) }

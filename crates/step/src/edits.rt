@@ -13,24 +13,24 @@ ghost use mathlib.Core.Path.{_≡_};
 ghost use mathlib.Core.List.{map};
 ghost use Prim.Native.Nat.{_+_, _<_};
 ghost use lib.ListN.{length, take};
-ghost use Rattle.rules.specs.Letters.{circumflex, horn, is};
+ghost use Rattle.rules.specs.Letters.{circumflex, horn};
 ghost use Rattle.rules.specs.TheWord.{letter};
 ghost use Rattle.rules.specs.KeyRoles.{asked as askedOf, last, circumflexOn, horned, shapeEdit, strokeEdit};
 ghost use Rattle.targets.specs.Places.{wanted};
 ghost use Rattle.targets.specs.Aims.{oneAt, pairAt};
-ghost use Rattle.step.specs.Held.{Given, Aimed, Edits, paired, dee};
+ghost use Rattle.step.specs.LentLetters.{LettersInFront, LetterThere, Edits, paired};
 
 // A shape on the letter at a place: taken off if it is there already.
 fn at(letters: &mut [u16], count: usize, i: usize, kind: u8) -> Edit
-    requires { ⌜ Aimed (now letters) count i kind ⌝ }
+    requires { ⌜ LetterThere (now letters) count i kind ⌝ }
     ensures { λ r. ⌜ Edits (askedOf kind (oneAt kind (Place.At i) (map letter (take count (now (letters .entry)))))) (now (letters .entry)) r (now (letters .exit)) ⌝ }
 {
     let old = letters[i];
-    if parts::shape(old) == kind {
-        letters[i] = targets::reshaped(old, PLAIN);
+    if rules::shape(old) == kind {
+        letters[i] = rules::reshaped(old, PLAIN);
         return Edit::Off;
     }
-    let new = targets::reshaped(old, kind);
+    let new = rules::reshaped(old, kind);
     letters[i] = new;
     if syllable::admitted(&letters[0..count]) {
         return Edit::Change(Act::Shape(kind));
@@ -50,25 +50,25 @@ fn put_pair(letters: &mut [u16], i: usize, first: u16, second: u16)
 
 // A horn on a letter and the next, both together: taken off if both have it already.
 fn both(letters: &mut [u16], count: usize, i: usize) -> Edit
-    requires { ⌜ Aimed (now letters) count (i + 1) horn ⌝ }
+    requires { ⌜ LetterThere (now letters) count (i + 1) horn ⌝ }
     ensures { λ r. ⌜ Edits (askedOf horn (pairAt (Place.At i) (map letter (take count (now (letters .entry)))))) (now (letters .entry)) r (now (letters .exit)) ⌝ }
 {
     let u = letters[i];
     let o = letters[i + 1];
-    if (parts::shape(u) == HORN) & (parts::shape(o) == HORN) {
+    if (rules::shape(u) == HORN) & (rules::shape(o) == HORN) {
         put_pair(
             letters,
             i,
-            targets::reshaped(u, PLAIN),
-            targets::reshaped(o, PLAIN),
+            rules::reshaped(u, PLAIN),
+            rules::reshaped(o, PLAIN),
         );
         return Edit::Off;
     }
     put_pair(
         letters,
         i,
-        targets::reshaped(u, HORN),
-        targets::reshaped(o, HORN),
+        rules::reshaped(u, HORN),
+        rules::reshaped(o, HORN),
     );
     if syllable::admitted(&letters[0..count]) {
         return Edit::Change(Act::Shape(HORN));
@@ -79,7 +79,7 @@ fn both(letters: &mut [u16], count: usize, i: usize) -> Edit
 
 // A horn on the pair; with no such pair, on the single letter.
 fn horn_edit(letters: &mut [u16], count: usize) -> Edit
-    requires { ⌜ Given (now letters) count ⌝ }
+    requires { ⌜ LettersInFront (now letters) count ⌝ }
     ensures { λ r. ⌜ Edits (askedOf horn (horned (map letter (take count (now (letters .entry)))))) (now (letters .entry)) r (now (letters .exit)) ⌝ }
 {
     let pair = targets::pair(&letters[0..count]);
@@ -95,7 +95,7 @@ fn horn_edit(letters: &mut [u16], count: usize) -> Edit
 
 // A circumflex or breve on the last letter that its key wants.
 fn last_edit(letters: &mut [u16], count: usize, key: ShapeKey, kind: u8) -> Edit
-    requires { ⌜ Given (now letters) count × (kind < 8) ⌝ }
+    requires { ⌜ LettersInFront (now letters) count × (kind < 8) ⌝ }
     ensures { λ r. ⌜ Edits (askedOf kind (last (wanted key) kind (map letter (take count (now (letters .entry)))))) (now (letters .entry)) r (now (letters .exit)) ⌝ }
 {
     let place = targets::last_wanted(&letters[0..count], key);
@@ -107,7 +107,7 @@ fn last_edit(letters: &mut [u16], count: usize, key: ShapeKey, kind: u8) -> Edit
 
 // A circumflex on the last letter that its Telex key wants.
 fn own_edit(letters: &mut [u16], count: usize, own: u8) -> Edit
-    requires { ⌜ Given (now letters) count ⌝ }
+    requires { ⌜ LettersInFront (now letters) count ⌝ }
     ensures { λ r. ⌜ Edits (askedOf circumflex (circumflexOn own (map letter (take count (now (letters .entry)))))) (now (letters .entry)) r (now (letters .exit)) ⌝ }
 {
     let place = targets::last_own(&letters[0..count], own);
@@ -119,7 +119,7 @@ fn own_edit(letters: &mut [u16], count: usize, own: u8) -> Edit
 
 // Telex w: the horn's edit, or where that is none the breve's.
 fn horn_or_breve(letters: &mut [u16], count: usize) -> Edit
-    requires { ⌜ Given (now letters) count ⌝ }
+    requires { ⌜ LettersInFront (now letters) count ⌝ }
     ensures { λ r. ⌜ Edits (shapeEdit ShapeKey.HornBreve (map letter (take count (now (letters .entry))))) (now (letters .entry)) r (now (letters .exit)) ⌝ }
 {
     let edit = horn_edit(letters, count);
@@ -130,7 +130,7 @@ fn horn_or_breve(letters: &mut [u16], count: usize) -> Edit
 }
 
 pub(crate) fn shape_edit(letters: &mut [u16], count: usize, key: ShapeKey) -> Edit
-    requires { ⌜ Given (now letters) count ⌝ }
+    requires { ⌜ LettersInFront (now letters) count ⌝ }
     ensures { λ r. ⌜ Edits (shapeEdit key (map letter (take count (now (letters .entry))))) (now (letters .entry)) r (now (letters .exit)) ⌝ }
 {
     match key {
@@ -142,28 +142,22 @@ pub(crate) fn shape_edit(letters: &mut [u16], count: usize, key: ShapeKey) -> Ed
     }
 }
 
-fn is_d(n: u16, kind: u8) -> bool
-    ensures { λ r. ⌜ r ≡ is (letter n) (dee kind) ⌝ }
-{
-    (n % 256 == b'd' as u16) & (n / 256 % 8 == kind as u16)
-}
-
 // If the first letter is đ, the stroke is taken off; if it is d, and it stands alone or the letters are admitted, put on.
 pub(crate) fn stroke_edit(letters: &mut [u16], count: usize) -> Edit
-    requires { ⌜ Given (now letters) count ⌝ }
+    requires { ⌜ LettersInFront (now letters) count ⌝ }
     ensures { λ r. ⌜ Edits (strokeEdit (map letter (take count (now (letters .entry))))) (now (letters .entry)) r (now (letters .exit)) ⌝ }
 {
     if count == 0 {
         return Edit::Nothing;
     }
     let first = letters[0];
-    if is_d(first, STROKE) {
-        letters[0] = targets::reshaped(first, PLAIN);
+    if rules::is(first, b'd', STROKE) {
+        letters[0] = rules::reshaped(first, PLAIN);
         return Edit::Off;
     }
     let alone = count == 1;
-    if is_d(first, PLAIN) & (alone | syllable::admitted(&letters[0..count])) {
-        letters[0] = targets::reshaped(first, STROKE);
+    if rules::is(first, b'd', PLAIN) & (alone | syllable::admitted(&letters[0..count])) {
+        letters[0] = rules::reshaped(first, STROKE);
         return Edit::Change(Act::Stroke);
     }
     Edit::Nothing

@@ -16,10 +16,11 @@ ghost use lib.ListN.{length};
 ghost use Rattle.rules.specs.TheWord.{mostKeys, appended as appendedOf, undone as undoneOf};
 ghost use Rattle.rules.specs.KeyRoles.{letterOfKey, append as appendOf, undo as undoOf, toneDoes, unlessClosed, role as roleOf, isKey};
 ghost use Rattle.rules.specs.Refusals.{outOfRange};
-ghost use Rattle.rules.proofs.Numbers.{AllFine};
+ghost use Rattle.rules.specs.LettersOfAMode.{AllFine};
 ghost use Rattle.rules.specs.WhatComesBack.{step as stepOf};
-ghost use Rattle.step.specs.Held.{Room, Leaves, Does, stateIn, afterEdit, withTone, countedIn, unlessClosedRole, refusedOf};
-ghost use Rattle.step.specs.LentWord.{wordIn, stepIn};
+ghost use Rattle.step.specs.LentLetters.{RoomForLetter, LeavesState, DoesAsRuled, stateIn, afterEdit, withTone, countedIn, unlessClosedRole, refusedOf};
+ghost use Rattle.step.specs.LentWord.{stepIn};
+ghost use Rattle.records.specs.Numbers.{wordIn};
 
 mod edits;
 
@@ -45,8 +46,8 @@ struct Done {
 
 // The key as a plain letter after the others.
 fn append(letters: &mut [u16], rest: Rest, key: u8) -> Rest
-    requires { ⌜ Room (now letters) (rest .count) ⌝ }
-    ensures { λ r. ⌜ Leaves (appendOf (stateIn (now (letters .entry)) rest) (letterOfKey key)) (now (letters .entry)) r (now (letters .exit)) ⌝ }
+    requires { ⌜ RoomForLetter (now letters) (rest .count) ⌝ }
+    ensures { λ r. ⌜ LeavesState (appendOf (stateIn (now (letters .entry)) rest) (letterOfKey key)) (now (letters .entry)) r (now (letters .exit)) ⌝ }
 {
     let n = rest.count as usize;
     letters[n] = keys::letter_of_key(key);
@@ -58,8 +59,8 @@ fn append(letters: &mut [u16], rest: Rest, key: u8) -> Rest
 }
 
 fn appended(letters: &mut [u16], rest: Rest, key: u8) -> Done
-    requires { ⌜ Room (now letters) (rest .count) ⌝ }
-    ensures { λ r. ⌜ Does (appendedOf (appendOf (stateIn (now (letters .entry)) rest) (letterOfKey key))) (now (letters .entry)) r (now (letters .exit)) ⌝ }
+    requires { ⌜ RoomForLetter (now letters) (rest .count) ⌝ }
+    ensures { λ r. ⌜ DoesAsRuled (appendedOf (appendOf (stateIn (now (letters .entry)) rest) (letterOfKey key))) (now (letters .entry)) r (now (letters .exit)) ⌝ }
 {
     Done {
         outcome: Outcome::Appended,
@@ -69,8 +70,8 @@ fn appended(letters: &mut [u16], rest: Rest, key: u8) -> Done
 
 // What is left once the mark is off: the key is appended and the word closed.
 fn undone(letters: &mut [u16], rest: Rest, key: u8) -> Done
-    requires { ⌜ Room (now letters) (rest .count) ⌝ }
-    ensures { λ r. ⌜ Does (undoneOf (undoOf (stateIn (now (letters .entry)) rest) (letterOfKey key))) (now (letters .entry)) r (now (letters .exit)) ⌝ }
+    requires { ⌜ RoomForLetter (now letters) (rest .count) ⌝ }
+    ensures { λ r. ⌜ DoesAsRuled (undoneOf (undoOf (stateIn (now (letters .entry)) rest) (letterOfKey key))) (now (letters .entry)) r (now (letters .exit)) ⌝ }
 {
     let next = append(letters, rest, key);
     Done {
@@ -96,8 +97,8 @@ fn with_tone(rest: Rest, tone: u8) -> Rest
 // Tone key: an undo if that tone is there already; else the tone, if the letters are admitted and it fits the final.
 // Clear: no tone, if there was one.
 fn tone_key(letters: &mut [u16], rest: Rest, key: u8, role: ToneKey) -> Done
-    requires { ⌜ Room (now letters) (rest .count) ⌝ }
-    ensures { λ r. ⌜ Does (toneDoes role (stateIn (now (letters .entry)) rest) (letterOfKey key)) (now (letters .entry)) r (now (letters .exit)) ⌝ }
+    requires { ⌜ RoomForLetter (now letters) (rest .count) ⌝ }
+    ensures { λ r. ⌜ DoesAsRuled (toneDoes role (stateIn (now (letters .entry)) rest) (letterOfKey key)) (now (letters .entry)) r (now (letters .exit)) ⌝ }
 {
     let tone = rest.tone;
     let ToneKey::SetTone(wanted) = role else {
@@ -124,8 +125,8 @@ fn tone_key(letters: &mut [u16], rest: Rest, key: u8, role: ToneKey) -> Done
 
 // What an edit of the letters does: nothing is an appended key, a mark taken off an undo, a change an act.
 fn edit_does(letters: &mut [u16], rest: Rest, key: u8, edit: Edit) -> Done
-    requires { ⌜ Room (now letters) (rest .count) ⌝ }
-    ensures { λ r. ⌜ Does (afterEdit edit (stateIn (now (letters .entry)) rest) (letterOfKey key)) (now (letters .entry)) r (now (letters .exit)) ⌝ }
+    requires { ⌜ RoomForLetter (now letters) (rest .count) ⌝ }
+    ensures { λ r. ⌜ DoesAsRuled (afterEdit edit (stateIn (now (letters .entry)) rest) (letterOfKey key)) (now (letters .entry)) r (now (letters .exit)) ⌝ }
 {
     if let Edit::Off = edit {
         return undone(letters, rest, key);
@@ -151,8 +152,8 @@ fn role_in(closed: bool, mode: u8, key: u8) -> Role
 
 // What a key does by its role: one that has none is appended.
 fn key_does(letters: &mut [u16], rest: Rest, mode: u8, key: u8) -> Done
-    requires { ⌜ Room (now letters) (rest .count) × AllFine mode (stateIn (now letters) rest .letters) ⌝ }
-    ensures { λ r. ⌜ Does (unlessClosed (rest .closed) (roleOf mode key) (stateIn (now (letters .entry)) rest) (letterOfKey key)) (now (letters .entry)) r (now (letters .exit)) ⌝ }
+    requires { ⌜ RoomForLetter (now letters) (rest .count) × AllFine mode (stateIn (now letters) rest .letters) ⌝ }
+    ensures { λ r. ⌜ DoesAsRuled (unlessClosed (rest .closed) (roleOf mode key) (stateIn (now (letters .entry)) rest) (letterOfKey key)) (now (letters .entry)) r (now (letters .exit)) ⌝ }
 {
     let count = rest.count as usize;
     let role = role_in(rest.closed, mode, key);

@@ -17,9 +17,9 @@ use Rattle.output.specs.Front.{put}
 use Rattle.output.proofs.Rooms.{has-room as fits, no-room as too-long}
 use Rattle.lines.specs.Programs.{answerOf, lineAnswer}
 use Rattle.lines.specs.declared.Program.{Program}
-use Rattle.stream.specs.Feeding.{mostKept, lineOf, answerNow, keptIf, kept, ended, ByteFed, byteIf, byteFed, putAt, stepOf, finishOr}
+use Rattle.stream.specs.Feeding.{mostKept, lineOf, answerNow, keptIf, kept, ended, ByteFed, byteIf, byteFed, putAt, byteDone, finishOr}
 use Rattle.stream.specs.declared.Begun.{Begun}
-use Rattle.stream.specs.declared.Step.{Step}
+use Rattle.stream.specs.declared.AfterByte.{AfterByte}
 
 -- one byte more
 module _ (s : Begun) (b : ℕ) where
@@ -88,12 +88,12 @@ module _ (s : Begun) (b : ℕ) (out : List ℕ) (at : ℕ) (inside : at ≤ leng
   fed = byteFed s b left
 
   -- what the step and the output are
-  pub record Stepped (r : Step) (after : List ℕ) : Type 0 where
-    pub step : r ≡ stepOf at fed
+  pub record Stepped (r : AfterByte) (after : List ℕ) : Type 0 where
+    pub step : r ≡ byteDone at fed
     pub output : after ≡ putAt at (fed .text) out
 
-  stepped : (f : ByteFed) (r : Step) (after : List ℕ) → fed ≡ f → r ≡ stepOf at f → after ≡ putAt at (f .text) out → Stepped r after
-  stepped f r after e p q = record { step = p ∙ ap (stepOf at) (sym e); output = q ∙ ap (λ (g : ByteFed). putAt at (g .text) out) (sym e) }
+  stepped : (f : ByteFed) (r : AfterByte) (after : List ℕ) → fed ≡ f → r ≡ byteDone at f → after ≡ putAt at (f .text) out → Stepped r after
+  stepped f r after e p q = record { step = p ∙ ap (byteDone at) (sym e); output = q ∙ ap (λ (g : ByteFed). putAt at (g .text) out) (sym e) }
 
   nothing-put : out ≡ putAt at [] out
   nothing-put = sym (take-append-drop at out)

@@ -3,21 +3,18 @@ use mathlib.Core.Path.{_≡_, refl, sym, ap, _∙_}
 use mathlib.Core.Bool.{Bool, true, false, not}
 use mathlib.Core.List.{List, [], _∷_, _++_}
 use Prim.Native.Nat.{ℕ, zero, suc, _+_, _≤_, _<_}
-use Prim.Native.Char.{code}
 use native.Mathlib.Omega.{arith}
 use borrow.Author.Tests.{lt-ltb, ltb-true, ltb-false}
 use lib.Dec.{eqb, ltb, lit≤}
 use lib.ListN.{length, take, length-take}
 use lib.Seq.{take-all}
-use Rattle.rules.specs.Letters.{telex, vni}
 use Rattle.rules.specs.TheWord.{mostKeys, mostBytes}
 use Rattle.rules.specs.Refusals.{isMode, refusal}
-use Rattle.rules.specs.Drill.{newline, refusedLine, lastLine, linesFrom, answers}
+use Rattle.rules.specs.Drill.{newline, refusedLine, modeOf, lastLine, linesFrom, answers}
 use Rattle.lines.specs.Programs.{answerOf}
-use Rattle.lines.specs.Starting.{startIf}
 use Rattle.lines.specs.declared.Program.{Program}
 use Rattle.lines.specs.declared.Program.the-variants.{Drill, Spell}
-use Rattle.lines.proofs.Starts.{restOf, byStart, started}
+use Rattle.lines.proofs.Starts.{restOf, by-rest}
 use Rattle.stream.specs.Feeding.{mostKept}
 
 -- more than a program takes behind the start is refusal 2, whatever it is and whatever follows
@@ -34,30 +31,29 @@ unfolding refusal
 too-many Drill m rest e h = simp (e, lt-ltb mostKeys (0 + length rest) (omega arith))
 too-many Spell m rest e h = simp (e, lt-ltb mostBytes (length rest) h)
 
-first-rest : (p : Program) (m : ℕ) (rest : List ℕ) → not (isMode m) ≡ false → restOf p m rest ≡ restOf p m (take 97 rest)
-first-rest p m rest e = go (ltb (most p) (length rest)) refl
+-- and in no mode anything is refusal 1
+no-mode : (p : Program) (m : ℕ) (rest : List ℕ) → not (isMode m) ≡ true → restOf p m rest ≡ refusedLine (record { number = 1; value = 0 })
+unfolding refusal
+no-mode Drill m rest e = simp e
+no-mode Spell m rest e = simp e
+
+first-rest : (p : Program) (m : ℕ) (rest : List ℕ) → restOf p m rest ≡ restOf p m (take 97 rest)
+first-rest p m rest = go (not (isMode m)) (ltb (most p) (length rest)) refl refl
   where
-    go : (b : Bool) → ltb (most p) (length rest) ≡ b → restOf p m rest ≡ restOf p m (take 97 rest)
-    go true d =
+    go : (a b : Bool) → not (isMode m) ≡ a → ltb (most p) (length rest) ≡ b → restOf p m rest ≡ restOf p m (take 97 rest)
+    go true b e d = no-mode p m rest e ∙ sym (no-mode p m (take 97 rest) e)
+    go false true e d =
         let h = ltb-true (most p) (length rest) d in
         too-many p m rest e h ∙ sym (too-many p m (take 97 rest) e (simp length-take (omega (arith, most-96 p))))
-    go false d =
+    go false false e d =
         let h = ltb-false (most p) (length rest) d in
         ap (restOf p m) (sym (take-all 97 rest (omega (arith, most-96 p))))
-
-first-started : (p : Program) (t v s : Bool) (rest : List ℕ) → byStart p (startIf t v s) rest ≡ byStart p (startIf t v s) (take 97 rest)
-first-started p true v true rest = first-rest p telex rest refl
-first-started p true v false rest = refl
-first-started p false true true rest = first-rest p vni rest refl
-first-started p false true false rest = refl
-first-started p false false true rest = refl
-first-started p false false false rest = refl
 
 pub first-bytes : (p : Program) (line : List ℕ) → answerOf p line ≡ answerOf p (take mostKept line)
 first-bytes p [] = refl
 first-bytes p (b ∷ []) = refl
 first-bytes p (b ∷ c ∷ rest) =
-    sym (started p (b ∷ c ∷ rest)) ∙ first-started p (eqb b (code "T")) (eqb b (code "V")) (eqb c (code " ")) rest ∙ started p (b ∷ c ∷ take 97 rest)
+    sym (by-rest p (b ∷ c ∷ rest)) ∙ first-rest p (modeOf (b ∷ c ∷ rest)) rest ∙ by-rest p (b ∷ c ∷ take 97 rest)
 
 -- one byte more behind lines that begin alike
 take-front : (n : ℕ) (l r : List ℕ) → take n (take n l ++ r) ≡ take n (l ++ r)

@@ -10,9 +10,9 @@ use lib.ListN.{length, take, drop, getD, length-append, length-take, length-drop
 use lib.Seq.{drop-cons, drop-drop, take-at, drop-at, length-take-le}
 use Rattle.rules.specs.TheWord.{atFront}
 use Rattle.rules.specs.Drill.{newline}
-use Rattle.stream.specs.Feeding.{answerNow, ByteFed, byteIf, byteFed, Feeding, stopped, after, feeding, putAt, stepOf, fedOf}
+use Rattle.stream.specs.Feeding.{answerNow, ByteFed, byteIf, byteFed, Feeding, stopped, after, feeding, putAt, byteDone, fedOf}
 use Rattle.stream.specs.declared.Begun.{Begun}
-use Rattle.stream.specs.declared.Step.{Step}
+use Rattle.stream.specs.declared.AfterByte.{AfterByte}
 use Rattle.stream.specs.declared.Fed.{Fed}
 
 -- what a byte writes has room
@@ -94,13 +94,13 @@ module _ (s₀ : Begun) (block : List ℕ) (from : ℕ) (out₀ : List ℕ) wher
     pub at-end : length block ≤ i → Comes s₀ block from out₀ (record { state = s; taken = i; written = at }) out
     at-end h = ends (ap (λ (l : List ℕ). feeding s l left) (drop-of-length-le block h))
 
-    module _ (inside : i < length block) (r : Step) (next : List ℕ) (step : r ≡ stepOf at (byteFed s (getD block i 0) left)) (put : next ≡ putAt at (byteFed s (getD block i 0) left .text) out) where
+    module _ (inside : i < length block) (r : AfterByte) (next : List ℕ) (step : r ≡ byteDone at (byteFed s (getD block i 0) left)) (put : next ≡ putAt at (byteFed s (getD block i 0) left .text) out) where
       abbrev f : ByteFed
       f = byteFed s (getD block i 0) left
 
       pub at-stuck : r .stuck ≡ true → Comes s₀ block from out₀ (record { state = s; taken = i; written = at }) next
       at-stuck e =
-          let stuck = sym (ap (λ (x : Step). x .stuck) step) ∙ e in
+          let stuck = sym (ap (λ (x : AfterByte). x .stuck) step) ∙ e in
           let last = ends (turn s block i left inside true stuck) in
           record {
             answer = last .answer;
@@ -116,7 +116,7 @@ module _ (s₀ : Begun) (block : List ℕ) (from : ℕ) (out₀ : List ℕ) wher
           let room = text-fits s (getD block i 0) left in
           let split : next ≡ (take at out ++ text) ++ drop (length text) (drop at out) = put ∙ sym (append-assoc (take at out) text (drop (length text) (drop at out))) in
           let n : length (take at out ++ text) ≡ at + length text = length-append (take at out) text ∙ ap (λ (k : ℕ). k + length text) (length-take-le at out (so .within)) in
-          let m : r .at ≡ at + length text = ap (λ (x : Step). x .at) step in
+          let m : r .at ≡ at + length text = ap (λ (x : AfterByte). x .at) step in
           let l : length (take at out ++ text) ≡ r .at = n ∙ sym m in
           let front : take (r .at) next ≡ take at out ++ text = ap (take (r .at)) split ∙ take-at (take at out ++ text) (drop (length text) (drop at out)) (r .at) l in
           let back : drop (r .at) next ≡ drop (length text) (drop at out) = ap (drop (r .at)) split ∙ drop-at (take at out ++ text) (drop (length text) (drop at out)) (r .at) l in
@@ -133,5 +133,5 @@ module _ (s₀ : Begun) (block : List ℕ) (from : ℕ) (out₀ : List ℕ) wher
             same =
                 (λ u. after (j u) (front u) (feeding (step u .state) (drop (one u) block) (k u))) ∙
                 ap₂ (λ (q : ℕ) (t : List ℕ). record { state = g .state; taken = q; text = t }) p (append-assoc (take at out) text (g .text)) ∙
-                ap (after (i - from) (take at out)) (sym (turn s block i left inside false (sym (ap (λ (x : Step). x .stuck) step) ∙ e))) ∙ so .same;
+                ap (after (i - from) (take at out)) (sym (turn s block i left inside false (sym (ap (λ (x : AfterByte). x .stuck) step) ∙ e))) ∙ so .same;
           }

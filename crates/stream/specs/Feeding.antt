@@ -14,7 +14,7 @@ use Rattle.lines.specs.Programs.{answerOf, lineAnswer}
 use Rattle.lines.specs.declared.Program.{Program}
 use Rattle.stream.specs.declared.Begun.{Begun}
 use Rattle.stream.specs.declared.Fed.{Fed}
-use Rattle.stream.specs.declared.Step.{Step}
+use Rattle.stream.specs.declared.AfterByte.{AfterByte}
 
 abbrev pub mostKept : ℕ
 mostKept = 99
@@ -81,8 +81,8 @@ abbrev pub putAt : ℕ → List ℕ → List ℕ → List ℕ
 putAt at text out = take at out ++ atFront text (drop at out)
 
 -- what the functions answer
-abbrev pub stepOf : ℕ → ByteFed → Step
-stepOf at f = record { state = f .state; at = at + length (f .text); stuck = f .stuck }
+abbrev pub byteDone : ℕ → ByteFed → AfterByte
+byteDone at f = record { state = f .state; at = at + length (f .text); stuck = f .stuck }
 
 abbrev pub fedOf : ℕ → Feeding → Fed
 fedOf from f = record { state = f .state; taken = from + f .taken; written = length (f .text) }

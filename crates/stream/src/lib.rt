@@ -5,7 +5,7 @@ ghost use lib.ListN.{length, drop};
 ghost use Rattle.rules.specs.TheWord.{atFront};
 ghost use Rattle.output.specs.Front.{put};
 ghost use Rattle.lines.specs.Programs.{headerOf};
-ghost use Rattle.stream.specs.Feeding.{noneBegun, kept as keptOf, byteFed, feeding, putAt, stepOf, fedOf, finishing};
+ghost use Rattle.stream.specs.Feeding.{noneBegun, kept as keptOf, byteFed, feeding, putAt, byteDone, fedOf, finishing};
 use lines::Program;
 use rules::WriteAnswer;
 
@@ -24,7 +24,7 @@ pub struct Fed {
 }
 
 // After one byte: the state, the place in the output behind what is written, and whether there was no room.
-struct Step {
+struct AfterByte {
     state: Begun,
     at: usize,
     stuck: bool,
@@ -77,12 +77,12 @@ fn kept(state: Begun, b: u8) -> Begun
     state
 }
 
-fn feed_byte(state: Begun, b: u8, out: &mut [u8], at: usize) -> Step
+fn feed_byte(state: Begun, b: u8, out: &mut [u8], at: usize) -> AfterByte
     requires { ⌜ at ≤ length (now out) ⌝ }
-    ensures { λ r. ⌜ (r ≡ stepOf at (byteFed state b (length (now (out .entry)) - at))) × (now (out .exit) ≡ putAt at (byteFed state b (length (now (out .entry)) - at) .text) (now (out .entry))) ⌝ }
+    ensures { λ r. ⌜ (r ≡ byteDone at (byteFed state b (length (now (out .entry)) - at))) × (now (out .exit) ≡ putAt at (byteFed state b (length (now (out .entry)) - at) .text) (now (out .entry))) ⌝ }
 {
     if b != b'\n' {
-        return Step {
+        return AfterByte {
             state: kept(state, b),
             at: at,
             stuck: false,
@@ -93,13 +93,13 @@ fn feed_byte(state: Begun, b: u8, out: &mut [u8], at: usize) -> Step
     let n = least(state.length, Begun::MOST);
     let answer = lines::answer_line(program, &line[0..n], &mut out[at..]);
     let WriteAnswer::Wrote(written) = answer else {
-        return Step {
+        return AfterByte {
             state: state,
             at: at,
             stuck: true,
         };
     };
-    Step {
+    AfterByte {
         state: Begun {
             program: program,
             line: line,

@@ -10,10 +10,10 @@ use lib.Ieee.Fits.{and-l, and-r}
 use borrow.Author.Tests.{ne-eqb, eqb-true}
 use Rattle.rules.specs.Letters.{Letter, Letters, plain}
 use Rattle.rules.specs.TakingApart.{agreesAt, agrees}
-use Rattle.syllable.specs.Numbers.{digit, num, more, code, small, Codes, short, Numbers, plainOf, agreeDigit}
+use Rattle.syllable.specs.Numbers.{digit, num, more, packed, bounded, Packs, short, Numbers, plainOf, agreeDigit}
 use Rattle.rules.proofs.Tests.{is-true}
 use Rattle.parts.proofs.Bools.{ifSo, only, never, and-false, and-if, eqb-case}
-use Rattle.syllable.proofs.Codes.{T-lt, Small, small-head, small-tail, digit-base, is-digit}
+use Rattle.syllable.proofs.PackedWords.{T-lt, Bounded, bounded-head, bounded-tail, digit-base, is-digit}
 
 -- one letter: it is the nucleus's letter, or that letter without its shape
 either : (b s p : Bool) → ((b && s) || (b && p)) ≡ (b && (p || s))
@@ -23,7 +23,7 @@ either true true false = refl
 either true false true = refl
 either true false false = refl
 
-agree-digit : (x z : Letter) → Small x → Small z → agreeDigit (digit x) (digit z) ≡ agreesAt x z
+agree-digit : (x z : Letter) → Bounded x → Bounded z → agreeDigit (digit x) (digit z) ≡ agreesAt x z
 agree-digit x z s u =
     ap₂ _||_ (sym (is-digit x z s u)) (ap (eqb (digit x)) (digit-base z u ∙ omega arith) ∙ sym (is-digit x bare s (record { base = u .base; shape = omega arith }))) ∙ either (eqb (x .base) (z .base)) (eqb (x .shape) (z .shape)) (eqb (x .shape) plain)
   where
@@ -42,7 +42,7 @@ one-none n e = ap₂ _||_ (ne-eqb n 0 (omega arith)) (ne-eqb n 0 (omega arith))
 none-one : (n : ℕ) → n % 2 ≡ 1 → agreeDigit 0 n ≡ false
 none-one n e = ap₂ _||_ (ne-eqb 0 n (omega arith)) (ne-eqb 0 (n % 512) (omega arith))
 
-agree-digits : (k : ℕ) (v z : Letters) → T (small v) → T (small z) → length v ≤ suc k → length z ≤ suc k → agreeDigits k (num v) (num z) ≡ agrees v z
+agree-digits : (k : ℕ) (v z : Letters) → T (bounded v) → T (bounded z) → length v ≤ suc k → length z ≤ suc k → agreeDigits k (num v) (num z) ≡ agrees v z
 agree-digits zero [] [] s u h l = refl
 agree-digits (suc k) [] [] s u h l = agree-digits k [] [] s u (omega arith) (omega arith)
 agree-digits zero [] (z ∷ zs) s u h l = none-one (num (z ∷ zs)) (omega arith)
@@ -52,16 +52,16 @@ agree-digits (suc k) (x ∷ xs) [] s u h l = ap (λ (b : Bool). b && agreeDigits
 agree-digits zero (x ∷ []) (z ∷ []) s u h l =
     let ex : num (x ∷ []) ≡ digit x = omega arith in
     let ez : num (z ∷ []) ≡ digit z = omega arith in
-    ap₂ agreeDigit ex ez ∙ agree-digit x z (small-head x [] s) (small-head z [] u) ∙ only (agreesAt x z)
+    ap₂ agreeDigit ex ez ∙ agree-digit x z (bounded-head x [] s) (bounded-head z [] u) ∙ only (agreesAt x z)
 agree-digits zero (x ∷ y ∷ ys) (z ∷ zs) s u h l = absurd (omega arith)
 agree-digits zero (x ∷ []) (z ∷ y ∷ ys) s u h l = absurd (omega arith)
 agree-digits (suc k) (x ∷ xs) (z ∷ zs) s u h l =
-    let a = small-head x xs s in let b = small-head z zs u in
+    let a = bounded-head x xs s in let b = bounded-head z zs u in
     let mx : num (x ∷ xs) % 4096 ≡ digit x = omega (arith, a) in
     let mz : num (z ∷ zs) % 4096 ≡ digit z = omega (arith, b) in
     let dx : num (x ∷ xs) / 4096 ≡ num xs = omega (arith, a) in
     let dz : num (z ∷ zs) / 4096 ≡ num zs = omega (arith, b) in
-    (λ j. agreeDigit (mx j) (mz j) && agreeDigits k (dx j) (dz j)) ∙ ap₂ _&&_ (agree-digit x z a b) (agree-digits k xs zs (small-tail x xs s) (small-tail z zs u) (omega arith) (omega arith)) ∙ and-if (agreesAt x z) (agrees xs zs)
+    (λ j. agreeDigit (mx j) (mz j) && agreeDigits k (dx j) (dz j)) ∙ ap₂ _&&_ (agree-digit x z a b) (agree-digits k xs zs (bounded-tail x xs s) (bounded-tail z zs u) (omega arith) (omega arith)) ∙ and-if (agreesAt x z) (agrees xs zs)
 
 -- more letters than the nucleus has never agree
 longer : (v z : Letters) → length z < length v → agrees v z ≡ false
@@ -79,21 +79,21 @@ short-length (a ∷ b ∷ c ∷ d ∷ ds) h = absurd (omega arith)
 abbrev pub agreeNumbers : ℕ → ℕ → Bool
 agreeNumbers p q = agreeDigits 2 p q
 
-agree-codes : (v z : Letters) → T (small v) → T (small z) → num z < more → agreeNumbers (code v) (num z) ≡ agrees v z
-agree-codes [] z s u h = agree-digits 2 [] z s u (omega arith) (short-length z h)
-agree-codes (a ∷ []) z s u h = agree-digits 2 (a ∷ []) z s u (omega arith) (short-length z h)
-agree-codes (a ∷ b ∷ []) z s u h = agree-digits 2 (a ∷ b ∷ []) z s u (omega arith) (short-length z h)
-agree-codes (a ∷ b ∷ c ∷ []) z s u h = agree-digits 2 (a ∷ b ∷ c ∷ []) z s u (omega arith) (short-length z h)
-agree-codes (a ∷ b ∷ c ∷ d ∷ ds) z s u h =
+agree-packed : (v z : Letters) → T (bounded v) → T (bounded z) → num z < more → agreeNumbers (packed v) (num z) ≡ agrees v z
+agree-packed [] z s u h = agree-digits 2 [] z s u (omega arith) (short-length z h)
+agree-packed (a ∷ []) z s u h = agree-digits 2 (a ∷ []) z s u (omega arith) (short-length z h)
+agree-packed (a ∷ b ∷ []) z s u h = agree-digits 2 (a ∷ b ∷ []) z s u (omega arith) (short-length z h)
+agree-packed (a ∷ b ∷ c ∷ []) z s u h = agree-digits 2 (a ∷ b ∷ c ∷ []) z s u (omega arith) (short-length z h)
+agree-packed (a ∷ b ∷ c ∷ d ∷ ds) z s u h =
     let v = a ∷ b ∷ c ∷ d ∷ ds in
     let l : length z ≤ 3 = short-length z h in
-    let n : agreeDigit (code v / 4096 / 4096) (num z / 4096 / 4096) ≡ false = ap₂ _||_ (ne-eqb (code v / 4096 / 4096) (num z / 4096 / 4096) (omega arith)) (ne-eqb (code v / 4096 / 4096) (num z / 4096 / 4096 % 512) (omega arith)) in
-    ap (λ (t : Bool). agreeDigit (code v % 4096) (num z % 4096) && (agreeDigit (code v / 4096 % 4096) (num z / 4096 % 4096) && t)) n ∙ sym (and-false (agreeDigit (code v % 4096) (num z % 4096)) ∙ ap (_&&_ (agreeDigit (code v % 4096) (num z % 4096))) (and-false (agreeDigit (code v / 4096 % 4096) (num z / 4096 % 4096)))) ∙ sym (longer v z (omega arith))
+    let n : agreeDigit (packed v / 4096 / 4096) (num z / 4096 / 4096) ≡ false = ap₂ _||_ (ne-eqb (packed v / 4096 / 4096) (num z / 4096 / 4096) (omega arith)) (ne-eqb (packed v / 4096 / 4096) (num z / 4096 / 4096 % 512) (omega arith)) in
+    ap (λ (t : Bool). agreeDigit (packed v % 4096) (num z % 4096) && (agreeDigit (packed v / 4096 % 4096) (num z / 4096 % 4096) && t)) n ∙ sym (and-false (agreeDigit (packed v % 4096) (num z % 4096)) ∙ ap (_&&_ (agreeDigit (packed v % 4096) (num z % 4096))) (and-false (agreeDigit (packed v / 4096 % 4096) (num z / 4096 % 4096)))) ∙ sym (longer v z (omega arith))
 
-module _ {p q : ℕ} {v z : Letters} (c : Codes p v) (n : Numbers q z) where
+module _ {p q : ℕ} {v z : Letters} (c : Packs p v) (n : Numbers q z) where
   pub agree-is : agreeNumbers p q ≡ agrees v z
   agree-is =
-      ap₂ agreeNumbers (c .is) (n .is) ∙ agree-codes v z (c .small) (and-l (small z) (ltb (num z) more) (n .short)) (T-lt (num z) more (and-r (small z) (ltb (num z) more) (n .short)))
+      ap₂ agreeNumbers (c .is) (n .is) ∙ agree-packed v z (c .bounded) (and-l (bounded z) (ltb (num z) more) (n .short)) (T-lt (num z) more (and-r (bounded z) (ltb (num z) more) (n .short)))
 
 -- digits that agree have the same base, and numbers that agree the same bases
 base-digit : (x z : ℕ) → T (agreeDigit x z) → x % 512 ≡ z % 512

@@ -12,7 +12,7 @@ use Rattle.rules.specs.TakingApart.{rows}
 use Rattle.syllable.specs.Numbers.{num, plainOf, short}
 use Rattle.syllable.specs.Nuclei.{nucleiOf, withBasesIn, withBases, threeOf}
 use Rattle.parts.proofs.Bools.{pick, eqb-case}
-use Rattle.syllable.proofs.Codes.{shorts}
+use Rattle.syllable.proofs.PackedWords.{shorts}
 use Rattle.syllable.proofs.Keys.{Rest, NoKey, rest, inArm, not-in}
 
 -- the base letters of the list, each where it first appears: the keys, in the order of the arms

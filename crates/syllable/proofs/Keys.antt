@@ -7,10 +7,10 @@ use Prim.Native.Nat.{ℕ}
 use lib.Dec.{T, ltb}
 use lib.Ieee.Fits.{and-l, and-r}
 use Rattle.rules.specs.Letters.{Letters, elem, oneOf}
-use Rattle.syllable.specs.Numbers.{nums, Codes}
+use Rattle.syllable.specs.Numbers.{nums, Packs}
 use Rattle.rules.proofs.Tests.{is-true}
 use Rattle.parts.proofs.Bools.{eqb-case}
-use Rattle.syllable.proofs.Codes.{shorts, one-is}
+use Rattle.syllable.proofs.PackedWords.{shorts, one-is}
 
 -- a number is one of the keys of an arm
 abbrev pub Key : ℕ → List ℕ → Type 0
@@ -89,7 +89,7 @@ no-elem p ls kss t n = go (elem p ls) refl
     go true e = absurd (not-in p kss n (holds (inArm kss) p ls t (key-of p ls (subst T (sym e) tt))))
 
 -- and on a table of words, of letters that have this number
-module _ {p : ℕ} {w : Letters} (c : Codes p w) (zs : List Letters) (s : T (shorts zs)) where
+module _ {p : ℕ} {w : Letters} (c : Packs p w) (zs : List Letters) (s : T (shorts zs)) where
   pub is-one : (ks : List ℕ) → T (every (isIn (nums zs)) ks) → Key p ks → true ≡ oneOf w zs
   is-one ks t h = is-elem p (nums zs) ks t h ∙ one-is c zs s
 

@@ -1,4 +1,4 @@
-pub mod Codes
+pub mod PackedWords
 pub mod Keys
 pub mod Rows
 pub mod Agreements

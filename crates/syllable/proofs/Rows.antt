@@ -8,12 +8,12 @@ use lib.ListN.{length, getD, take, drop}
 use lib.Ieee.Fits.{and-l, and-r}
 use borrow.Author.Tests.{eqb-true}
 use Rattle.rules.specs.Letters.{Letters, elem, oneOf, isNil}
-use Rattle.rules.specs.TakingApart.{Row, rows}
-use Rattle.syllable.specs.Numbers.{nums, Codes}
-use Rattle.syllable.specs.Nuclei.{noRow, rowIn, rowOf, inRow}
+use Rattle.rules.specs.TakingApart.{Row, rows, inRow}
+use Rattle.syllable.specs.Numbers.{nums, Packs}
+use Rattle.syllable.specs.Nuclei.{noRow, rowIn, rowOf}
 use Rattle.rules.proofs.Tests.{is-true}
 use Rattle.parts.proofs.Bools.{pick, and-false}
-use Rattle.syllable.proofs.Codes.{shorts, one-is}
+use Rattle.syllable.proofs.PackedWords.{shorts, one-is}
 use Rattle.syllable.proofs.Keys.{Key, keys, every, holds, Rest, NoKey, rest, inArm, isIn, no-elem, is-one, no-one}
 
 -- the place of the row that has a nucleus, by its number
@@ -25,7 +25,7 @@ abbrev shortRows : List Row → Bool
 shortRows [] = true
 shortRows (r ∷ rs) = shorts (r .nuclei) && shortRows rs
 
-number-is : {p : ℕ} {v : Letters} → Codes p v → (rs : List Row) → T (shortRows rs) → rowIn v rs ≡ getD rs (rowNumber p rs) noRow
+number-is : {p : ℕ} {v : Letters} → Packs p v → (rs : List Row) → T (shortRows rs) → rowIn v rs ≡ getD rs (rowNumber p rs) noRow
 number-is c [] t = refl
 number-is {p} {v} c (r ∷ rs) t =
     ap (λ (b : Bool). pick r b (rowIn v rs)) (sym (one-is c (r .nuclei) (and-l (shorts (r .nuclei)) (shortRows rs) t))) ∙ go (elem p (nums (r .nuclei))) (number-is c rs (and-r (shorts (r .nuclei)) (shortRows rs) t))
@@ -37,7 +37,7 @@ number-is {p} {v} c (r ∷ rs) t =
 abbrev pub row : ℕ → Row
 row i = getD rows i noRow
 
-pub row-is : {p : ℕ} {v : Letters} → Codes p v → (i : ℕ) → rowNumber p rows ≡ i → rowOf v ≡ row i
+pub row-is : {p : ℕ} {v : Letters} → Packs p v → (i : ℕ) → rowNumber p rows ≡ i → rowOf v ≡ row i
 unfolding rowOf
 row-is c i e = number-is c rows tt ∙ ap row e
 
@@ -88,7 +88,7 @@ endings-are f r = go (r .bare) f
     go false (x ∷ xs) = refl
 
 -- the two matches of the table
-module _ {p q : ℕ} {v f : Letters} (n : Codes p v) (e : Codes q f) where
+module _ {p q : ℕ} {v f : Letters} (n : Packs p v) (e : Packs q f) where
   module _ (i : ℕ) (ks : List ℕ) (t : T (every (standsIn i) ks)) (h : Key p ks) (s : T (shorts (endings (row i)))) where
     in-row : oneOf f (endings (row i)) ≡ inRow (rowOf v) f
     in-row = endings-are f (row i) ∙ ap (λ (r : Row). inRow r f) (sym (row-is n i (eqb-true (rowNumber p rows) i (is-true _ (holds (standsIn i) p ks t h)))))

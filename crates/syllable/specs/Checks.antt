@@ -1,13 +1,13 @@
 -- What the code answers of the checks on a word, as equations to document 01's definitions.
-use mathlib.Core.Bool.{Bool, true, false, not}
+use mathlib.Core.Bool.{Bool, true, false}
 use mathlib.Core.List.{[], _∷_, _++_}
 use Prim.Native.Nat.{ℕ}
-use Rattle.rules.specs.Letters.{Letters, oneOf}
-use Rattle.rules.specs.TakingApart.{initial, nucleus, final, initials, fit, listed, someAgrees, fits, check, firstThatHolds, oneToFive}
+use Rattle.rules.specs.Letters.{Letters}
+use Rattle.rules.specs.TakingApart.{initial, nucleus, final, listed, someAgrees, firstThatHolds, unknownInitial, unfitInitial, oneToFive, sixAndSeven}
 
 -- the first of the two checks on an initial that holds, by the first vowel's base
 abbrev pub initialFault : Letters → ℕ → ℕ
-initialFault ini v = firstThatHolds (check 2 (not (oneOf ini initials)) ∷ check 4 (not (fit ini v)) ∷ [])
+initialFault ini v = firstThatHolds (unknownInitial ini ∷ unfitInitial ini v ∷ [])
 
 -- what check 6 asks for: the nucleus is listed or, where it is free, some listed nucleus agrees
 abbrev pub sixth : Bool → Letters → Bool
@@ -16,4 +16,4 @@ sixth false w = listed (initial w) (nucleus w) (final w)
 
 -- the first check that holds, or 0
 unfoldable pub asked : Letters → (tone : ℕ) → (free : Bool) → ℕ
-asked w tone free = firstThatHolds (oneToFive w ++ (check 6 (not (sixth free w)) ∷ check 7 (not (fits (final w) tone)) ∷ []))
+asked w tone free = firstThatHolds (oneToFive w ++ sixAndSeven (sixth free w) w tone)

@@ -1,10 +1,10 @@
 -- The nuclei of document 01 one after the other: the row of each, and those that have the same base letters.
-use mathlib.Core.Bool.{Bool, true, false, _&&_, _||_}
+use mathlib.Core.Bool.{true, false}
 use mathlib.Core.List.{List, [], _∷_, _++_}
 use Prim.Native.Nat.{ℕ}
 use lib.Dec.{eqb}
 use lib.ListN.{getD}
-use Rattle.rules.specs.Letters.{Letters, oneOf, isNil}
+use Rattle.rules.specs.Letters.{Letters, oneOf}
 use Rattle.rules.specs.TakingApart.{Row, rows}
 use Rattle.syllable.specs.Numbers.{num, plainOf}
 use Rattle.syllable.specs.declared.nuclei.Three.{Three}
@@ -23,10 +23,6 @@ rowIn z (r ∷ rs) = elim (oneOf z (r .nuclei)) [ true ↦ r | false ↦ rowIn z
 
 unfoldable pub rowOf : Letters → Row
 rowOf z = rowIn z rows
-
--- a row's finals, none among them where its nuclei stand open
-abbrev pub inRow : Row → Letters → Bool
-inRow r fin = (isNil fin && r .bare) || oneOf fin (r .ends)
 
 -- the nuclei whose number without shapes is this
 abbrev pub withBasesIn : ℕ → List Letters → List Letters

@@ -26,26 +26,26 @@ nums zs = map num zs
 abbrev pub more : ℕ
 more = 4096 * 4096 * 4096
 
-abbrev pub code : Letters → ℕ
-code [] = num []
-code (x ∷ []) = num (x ∷ [])
-code (x ∷ y ∷ []) = num (x ∷ y ∷ [])
-code (x ∷ y ∷ z ∷ []) = num (x ∷ y ∷ z ∷ [])
-code (x ∷ y ∷ z ∷ t ∷ ts) = num (x ∷ y ∷ z ∷ []) + more
+abbrev pub packed : Letters → ℕ
+packed [] = num []
+packed (x ∷ []) = num (x ∷ [])
+packed (x ∷ y ∷ []) = num (x ∷ y ∷ [])
+packed (x ∷ y ∷ z ∷ []) = num (x ∷ y ∷ z ∷ [])
+packed (x ∷ y ∷ z ∷ t ∷ ts) = num (x ∷ y ∷ z ∷ []) + more
 
 -- letters whose base is a byte and whose shape is below 8, as all have that are read off numbers
-abbrev pub small : Letters → Bool
-small [] = true
-small (x ∷ xs) = (ltb (x .base) 256 && ltb (x .shape) 8) && small xs
+abbrev pub bounded : Letters → Bool
+bounded [] = true
+bounded (x ∷ xs) = (ltb (x .base) 256 && ltb (x .shape) 8) && bounded xs
 
 -- a number is the code of these letters
-pub record Codes (p : ℕ) (w : Letters) : Type 0 where
-  pub is : p ≡ code w
-  pub small : T (small w)
+pub record Packs (p : ℕ) (w : Letters) : Type 0 where
+  pub is : p ≡ packed w
+  pub bounded : T (bounded w)
 
 -- a number is that of a table's word, which has at most three letters
 abbrev pub short : Letters → Bool
-short z = small z && ltb (num z) more
+short z = bounded z && ltb (num z) more
 
 pub record Numbers (p : ℕ) (z : Letters) : Type 0 where
   pub is : p ≡ num z

@@ -7,7 +7,7 @@ ghost use Rattle.rules.specs.Letters.{Letters, oneOf, firstBase};
 ghost use Rattle.rules.specs.TheWord.{letter};
 ghost use Rattle.rules.specs.TakingApart.{finals, stop as stopOf, fits as fitsOf, verdict as verdictOf, admitted as admittedOf};
 ghost use Rattle.rules.specs.KeyRoles.{toneGoes};
-ghost use Rattle.syllable.specs.Numbers.{digitAt, code as codeOf, Codes};
+ghost use Rattle.syllable.specs.Numbers.{digitAt, packed as packedOf, Packs};
 ghost use Rattle.syllable.specs.Checks.{initialFault, asked};
 
 mod nuclei;
@@ -31,8 +31,8 @@ fn digit_at(part: &[u16], i: usize) -> u64
 }
 
 // A part of a word as one number: its first three letters as digits, and MORE where there are more.
-fn code(part: &[u16]) -> u64
-    ensures { λ r. ⌜ r ≡ codeOf (map letter (now (part .entry))) ⌝ }
+fn packed(part: &[u16]) -> u64
+    ensures { λ r. ⌜ r ≡ packedOf (map letter (now (part .entry))) ⌝ }
 {
     let three = digit_at(part, 0) + NEXT * (digit_at(part, 1) + NEXT * digit_at(part, 2));
     if 3 < part.len() {
@@ -43,7 +43,7 @@ fn code(part: &[u16]) -> u64
 
 // An initial: 2 if it is unknown, 4 if it does not fit the first vowel, by its base; else 0.
 fn initial_fault(ini: u64, v: u8) -> u8
-    ensures { λ r. ⌜ ((w : Letters) → Codes ini w → r ≡ initialFault w v) ⌝ }
+    ensures { λ r. ⌜ ((w : Letters) → Packs ini w → r ≡ initialFault w v) ⌝ }
 {
     let fits = match ini {
         NONE | B | D | DD | H | L | M | N | P | R | S | T | V | X => true,
@@ -61,7 +61,7 @@ fn initial_fault(ini: u64, v: u8) -> u8
 
 // Finals: none, and these.
 fn known_final(fin: u64) -> bool
-    ensures { λ r. ⌜ ((w : Letters) → Codes fin w → r ≡ oneOf w finals) ⌝ }
+    ensures { λ r. ⌜ ((w : Letters) → Packs fin w → r ≡ oneOf w finals) ⌝ }
 {
     match fin {
         NONE | C | CH | M | N | NG | NH | P | T => true,
@@ -71,7 +71,7 @@ fn known_final(fin: u64) -> bool
 
 // A stop: c, ch, p or t.
 fn stop(fin: u64) -> bool
-    ensures { λ r. ⌜ ((w : Letters) → Codes fin w → r ≡ stopOf w) ⌝ }
+    ensures { λ r. ⌜ ((w : Letters) → Packs fin w → r ≡ stopOf w) ⌝ }
 {
     match fin {
         C | CH | P | T => true,
@@ -81,14 +81,14 @@ fn stop(fin: u64) -> bool
 
 // The base of a word's first letter, 0 where there is none.
 fn first_base(p: u64) -> u8
-    ensures { λ r. ⌜ ((w : Letters) → Codes p w → r ≡ firstBase w) ⌝ }
+    ensures { λ r. ⌜ ((w : Letters) → Packs p w → r ≡ firstBase w) ⌝ }
 {
     (p % SHAPE / 2) as u8
 }
 
 // Fits: tone 1 or 5, or the final is no stop.
 fn tone_fits(fin: u64, tone: u8) -> bool
-    ensures { λ r. ⌜ ((f : Letters) → Codes fin f → r ≡ fitsOf f tone) ⌝ }
+    ensures { λ r. ⌜ ((f : Letters) → Packs fin f → r ≡ fitsOf f tone) ⌝ }
 {
     ((tone == ACUTE) | (tone == DOT)) | !stop(fin)
 }
@@ -105,8 +105,8 @@ fn ask(s: &[u16], tone: u8, free: bool) -> u8
     if i == n {
         return 1;
     }
-    let ini = code(&s[0..i]);
-    let nuc = code(&s[i..n]);
+    let ini = packed(&s[0..i]);
+    let nuc = packed(&s[i..n]);
     let fault = initial_fault(ini, first_base(nuc));
     if fault == 2 {
         return 2;
@@ -117,7 +117,7 @@ fn ask(s: &[u16], tone: u8, free: bool) -> u8
     if fault == 4 {
         return 4;
     }
-    let fin = code(&s[n..f]);
+    let fin = packed(&s[n..f]);
     if !known_final(fin) {
         return 5;
     }

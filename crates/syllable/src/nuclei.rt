@@ -4,14 +4,14 @@ ghost use mathlib.Core.Path.{_≡_};
 ghost use Prim.Native.Nat.{_≤_};
 ghost use lib.ListN.{length};
 ghost use Rattle.rules.specs.Letters.{Letters};
-ghost use Rattle.rules.specs.TakingApart.{takes as takesOf, stands as standsOf, agrees as agreesOf, couldBe, listed as listedOf, someAgrees};
-ghost use Rattle.syllable.specs.Numbers.{Codes, Numbers, plainOf, agreeDigit};
-ghost use Rattle.syllable.specs.Nuclei.{rowOf, inRow, withBases, threeOf};
+ghost use Rattle.rules.specs.TakingApart.{takes as takesOf, stands as standsOf, agrees as agreesOf, couldBe, listed as listedOf, someAgrees, inRow};
+ghost use Rattle.syllable.specs.Numbers.{Packs, Numbers, plainOf, agreeDigit};
+ghost use Rattle.syllable.specs.Nuclei.{rowOf, withBases, threeOf};
 use super::words::*;
 
 // The nuclei (54), the finals of each, and NONE where it stands open.
 fn in_table(nuc: u64, fin: u64) -> bool
-    ensures { λ r. ⌜ ((v f : Letters) → Codes nuc v → Codes fin f → r ≡ inRow (rowOf v) f) ⌝ }
+    ensures { λ r. ⌜ ((v f : Letters) → Packs nuc v → Packs fin f → r ≡ inRow (rowOf v) f) ⌝ }
 {
     match nuc {
         A | OA => match fin {
@@ -52,14 +52,14 @@ fn in_table(nuc: u64, fin: u64) -> bool
 
 // After gi, ê also takes ng (giếng).
 fn takes(ini: u64, nuc: u64, fin: u64) -> bool
-    ensures { λ r. ⌜ ((w v f : Letters) → Codes ini w → Codes nuc v → Codes fin f → r ≡ takesOf w (rowOf v) v f) ⌝ }
+    ensures { λ r. ⌜ ((w v f : Letters) → Packs ini w → Packs nuc v → Packs fin f → r ≡ takesOf w (rowOf v) v f) ⌝ }
 {
     in_table(nuc, fin) | ((ini == GI) & ((nuc == EE) & (fin == NG)))
 }
 
 // yê and yêu stand only after no initial or qu. After qu, no nucleus of two or more letters begins with o in any shape.
 fn stands(ini: u64, nuc: u64) -> bool
-    ensures { λ r. ⌜ ((w v : Letters) → Codes ini w → Codes nuc v → r ≡ standsOf w v) ⌝ }
+    ensures { λ r. ⌜ ((w v : Letters) → Packs ini w → Packs nuc v → r ≡ standsOf w v) ⌝ }
 {
     if ini == QU {
         return !((NEXT <= nuc) & (nuc % SHAPE == O));
@@ -72,7 +72,7 @@ fn stands(ini: u64, nuc: u64) -> bool
 
 // The nucleus, in letters and shapes, is in the list, is allowed after this initial, and with this final.
 pub(crate) fn listed(ini: u64, nuc: u64, fin: u64) -> bool
-    ensures { λ r. ⌜ ((w v f : Letters) → Codes ini w → Codes nuc v → Codes fin f → r ≡ listedOf w v f) ⌝ }
+    ensures { λ r. ⌜ ((w v f : Letters) → Packs ini w → Packs nuc v → Packs fin f → r ≡ listedOf w v f) ⌝ }
 {
     stands(ini, nuc) & takes(ini, nuc, fin)
 }
@@ -143,7 +143,7 @@ fn agrees_at(x: u64, z: u64) -> bool
 
 // The same base letters, and agreeing with every letter already shaped.
 fn agrees(nuc: u64, z: u64) -> bool
-    ensures { λ r. ⌜ ((v l : Letters) → Codes nuc v → Numbers z l → r ≡ agreesOf v l) ⌝ }
+    ensures { λ r. ⌜ ((v l : Letters) → Packs nuc v → Numbers z l → r ≡ agreesOf v l) ⌝ }
 {
     agrees_at(nuc % NEXT, z % NEXT)
         & (agrees_at(nuc / NEXT % NEXT, z / NEXT % NEXT)
@@ -152,7 +152,7 @@ fn agrees(nuc: u64, z: u64) -> bool
 
 // Could the letters become this listed nucleus: an empty final is always taken.
 fn could_be(ini: u64, nuc: u64, fin: u64, z: u64) -> bool
-    ensures { λ r. ⌜ ((w v f l : Letters) → Codes ini w → Codes nuc v → Codes fin f → Numbers z l → r ≡ couldBe w v f (rowOf l) l) ⌝ }
+    ensures { λ r. ⌜ ((w v f l : Letters) → Packs ini w → Packs nuc v → Packs fin f → Numbers z l → r ≡ couldBe w v f (rowOf l) l) ⌝ }
 {
     if !agrees(nuc, z) {
         return false;
@@ -168,7 +168,7 @@ fn could_be(ini: u64, nuc: u64, fin: u64, z: u64) -> bool
 
 // Some listed nucleus agrees, may stand after this initial, and takes this final.
 pub(crate) fn some_agrees(ini: u64, nuc: u64, fin: u64) -> bool
-    ensures { λ r. ⌜ ((w v f : Letters) → Codes ini w → Codes nuc v → Codes fin f → r ≡ someAgrees w v f) ⌝ }
+    ensures { λ r. ⌜ ((w v f : Letters) → Packs ini w → Packs nuc v → Packs fin f → r ≡ someAgrees w v f) ⌝ }
 {
     if nuc == NONE {
         return false;

@@ -5,10 +5,10 @@ use mathlib.Core.List.{[], _∷_}
 use Prim.Native.Nat.{ℕ, suc}
 use lib.Dec.{eqb}
 use Rattle.rules.specs.Letters.{Letter, Letters, plain, horn}
-use Rattle.rules.specs.KeyRoles.{shaped, Found, behind, orElse, ifSo, target, here, last, isQ, pairHere, pair, single, horned}
+use Rattle.rules.specs.KeyRoles.{shaped, Found, behind, orElse, ifSo, target, here, last, isQ, pairHere, pair, single, horned, isPair, isSingle}
 use Rattle.rules.specs.declared.Place.{Place}
 use Rattle.rules.specs.declared.Place.the-variants.{At, Nowhere}
-use Rattle.targets.specs.Places.{next, orHere, hereOr, lastPlace, isPair, pairPlace, isSingle, singlePlace}
+use Rattle.targets.specs.Places.{next, orHere, hereOr, lastPlace, pairPlace, singlePlace}
 use Rattle.targets.specs.Aims.{shapeAt, oneAt, pairAt}
 
 behind-target : (c : Bool) (x : Letter) (v w : Letters) → behind x (target c v w) ≡ target c (x ∷ v) (x ∷ w)

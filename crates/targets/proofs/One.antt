@@ -3,8 +3,6 @@ use mathlib.Core.Path.{_≡_, sym, _∙_}
 use contract.Lifetimes.{Lfts}
 use denote.Triple.Entry.{Args, Res}
 use denote.Triple.Clauses.{AtExit}
-use Rattle.targets.proofs.reshaped as reshaped
-use Rattle.targets.proofs.reshaped.Reads as reshaped-reads
 use Rattle.targets.proofs.last_wanted as last-wanted
 use Rattle.targets.proofs.last_wanted.Reads as last-wanted-reads
 use Rattle.targets.proofs.last_own as last-own
@@ -13,9 +11,6 @@ use Rattle.targets.proofs.pair as pair
 use Rattle.targets.proofs.pair.Reads as pair-reads
 use Rattle.targets.proofs.single as single
 use Rattle.targets.proofs.single.Reads as single-reads
-
-pub reshaped-one : (κs : Lfts 0) (a : Args reshaped.signature κs) (r r′ : Res reshaped.signature κs) (e e′ : AtExit reshaped.ended κs) → reshaped-reads.Post κs a r e → reshaped-reads.Post κs a r′ e′ → r ≡ r′
-reshaped-one κs a r r′ e e′ p p′ = p ∙ sym p′
 
 pub last-wanted-one : (κs : Lfts 1) (a : Args last-wanted.signature κs) (r r′ : Res last-wanted.signature κs) (e e′ : AtExit last-wanted.ended κs) → last-wanted-reads.Post κs a r e → last-wanted-reads.Post κs a r′ e′ → r ≡ r′
 last-wanted-one κs a r r′ e e′ p p′ = p ∙ sym p′

@@ -9,10 +9,10 @@ use lib.Dec.{eqb}
 use lib.ListN.{length, drop, getD, length-drop, drop-of-length-le}
 use lib.Seq.{drop-cons, drop-length}
 use Rattle.rules.specs.TheWord.{letter, capitalNumber}
-use Rattle.rules.specs.KeyRoles.{isQ}
+use Rattle.rules.specs.KeyRoles.{isQ, isPair, isSingle}
 use Rattle.rules.specs.declared.Place.{Place}
 use Rattle.rules.specs.declared.Place.the-variants.{At, Nowhere}
-use Rattle.targets.specs.Places.{next, orHere, lastPlace, isPair, pairPlace, isSingle, singlePlace}
+use Rattle.targets.specs.Places.{next, orHere, lastPlace, pairPlace, singlePlace}
 
 -- the search from the end: nothing is wanted from here on
 module _ (want : ℕ → Bool) where
@@ -83,12 +83,3 @@ module _ (s : List ℕ) (i : ℕ) (q : Bool) where
 
   pub pair-end : length s ≤ i + 1 → from i (pairPlace q (map letter (drop i s))) ≡ Nowhere
   pair-end h = ap (from i) (no-pair q (drop i s) (simp length-drop (omega arith)))
-
--- the capital bit of a letter's number
-pub capital-bit : (n : ℕ) → n / 2048 % 2 * 2048 ≡ capitalNumber (letter n .capital)
-capital-bit n = go (n / 2048 % 2) (omega arith)
-  where
-    go : (b : ℕ) → b ≤ 1 → b * 2048 ≡ capitalNumber (eqb b 1)
-    go zero h = refl
-    go (suc zero) h = refl
-    go (suc (suc b)) h = absurd (omega arith)

@@ -6,10 +6,10 @@ use Prim.Native.Nat.{ℕ, suc, _<_}
 use native.Mathlib.Omega.{arith}
 use lib.ListN.{length}
 use Rattle.rules.specs.Letters.{Letter, Letters}
-use Rattle.rules.specs.KeyRoles.{isQ}
+use Rattle.rules.specs.KeyRoles.{isQ, isPair, isSingle}
 use Rattle.rules.specs.declared.Place.{Place}
 use Rattle.rules.specs.declared.Place.the-variants.{At, Nowhere}
-use Rattle.targets.specs.Places.{orHere, hereOr, lastPlace, isPair, pairPlace, isSingle, singlePlace}
+use Rattle.targets.specs.Places.{orHere, hereOr, lastPlace, pairPlace, singlePlace}
 
 data Below (n : ℕ) : Place → Type 0 where
   below : (i : ℕ) → i < n → Below n (At i)

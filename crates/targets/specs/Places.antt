@@ -1,11 +1,9 @@
 -- The targets of document 01's shape keys ("Rules for one key") as places in a word's letters.
-use mathlib.Core.Bool.{Bool, true, false, not, _&&_}
+use mathlib.Core.Bool.{Bool, true, false}
 use mathlib.Core.List.{[], _∷_}
 use Prim.Native.Nat.{ℕ, suc}
-use Prim.Native.Char.{code}
-use lib.Dec.{eqb}
-use Rattle.rules.specs.Letters.{Letters, among}
-use Rattle.rules.specs.KeyRoles.{own, isAEO, isA, isQ}
+use Rattle.rules.specs.Letters.{Letters}
+use Rattle.rules.specs.KeyRoles.{own, isAEO, isA, isQ, isPair, isSingle}
 use Rattle.rules.specs.declared.Place.{Place}
 use Rattle.rules.specs.declared.Place.the-variants.{At, Nowhere}
 use Rattle.rules.specs.declared.ShapeKey.{ShapeKey}
@@ -39,18 +37,12 @@ lastPlace want [] = Nowhere
 lastPlace want (x ∷ xs) = orHere (lastPlace want xs) (want (x .base))
 
 -- the first u followed directly by o, the u not directly after q
-abbrev pub isPair : Bool → ℕ → ℕ → Bool
-isPair afterQ first second = eqb first (code "u") && (eqb second (code "o") && not afterQ)
-
 abbrev pub pairPlace : Bool → Letters → Place
 pairPlace afterQ [] = Nowhere
 pairPlace afterQ (x ∷ []) = Nowhere
 pairPlace afterQ (x ∷ z ∷ zs) = hereOr (isPair afterQ (x .base) (z .base)) (pairPlace (isQ x) (z ∷ zs))
 
 -- the first o or u not directly after q
-abbrev pub isSingle : Bool → ℕ → Bool
-isSingle afterQ b = among b "ou" && not afterQ
-
 abbrev pub singlePlace : Bool → Letters → Place
 singlePlace afterQ [] = Nowhere
 singlePlace afterQ (x ∷ xs) = hereOr (isSingle afterQ (x .base)) (singlePlace (isQ x) xs)

@@ -1,33 +1,18 @@
 // Where a shape key aims: places in a lent slice of letter numbers, of any length.
-use rules::CAPITAL;
 use rules::Place;
 use rules::ShapeKey;
 ghost use mathlib.Core.Path.{_≡_};
 ghost use mathlib.Core.List.{map};
-ghost use Prim.Native.Nat.{_%_};
-ghost use Rattle.rules.specs.TheWord.{letter, number};
+ghost use Rattle.rules.specs.TheWord.{letter};
 ghost use mathlib.Core.Bool.{false};
-ghost use Rattle.rules.specs.KeyRoles.{shaped, own as ownOf, isAEO, isQ};
-ghost use Rattle.targets.specs.Places.{wanted, lastPlace, isPair, pairPlace, isSingle, singlePlace};
-
-fn base(n: u16) -> u8
-    ensures { λ r. ⌜ r ≡ letter n .base ⌝ }
-{
-    (n % 256) as u8
-}
-
-// The same letter in another shape, one of the eight that a letter's number has room for.
-pub fn reshaped(n: u16, shape: u8) -> u16
-    ensures { λ r. ⌜ r ≡ number (shaped (shape % 8) (letter n)) ⌝ }
-{
-    n % 256 + 256 * ((shape % 8) as u16) + n / CAPITAL % 2 * CAPITAL
-}
+ghost use Rattle.rules.specs.KeyRoles.{own as ownOf, isAEO, isQ, isPair, isSingle};
+ghost use Rattle.targets.specs.Places.{wanted, lastPlace, pairPlace, singlePlace};
 
 // Circumflex wants its own letter, or a, e or o; breve wants a.
 fn wants(key: ShapeKey, n: u16) -> bool
     ensures { λ r. ⌜ r ≡ wanted key (letter n .base) ⌝ }
 {
-    let b = base(n);
+    let b = rules::base(n);
     match key {
         ShapeKey::CircumflexOn(own) => is_own(own, b),
         ShapeKey::Circumflex => is_aeo(b),
@@ -71,7 +56,7 @@ pub fn last_own(letters: &[u16], own: u8) -> Place
     let mut at = letters.len();
     while 0 < at {
         at -= 1;
-        if is_own(own, base(letters[at])) {
+        if is_own(own, rules::base(letters[at])) {
             return Place::At(at);
         }
     }
@@ -81,13 +66,13 @@ pub fn last_own(letters: &[u16], own: u8) -> Place
 fn is_q(n: u16) -> bool
     ensures { λ r. ⌜ r ≡ isQ (letter n) ⌝ }
 {
-    base(n) == b'q'
+    rules::base(n) == b'q'
 }
 
 fn is_pair(after_q: bool, first: u16, second: u16) -> bool
     ensures { λ r. ⌜ r ≡ isPair «after_q» (letter first .base) (letter second .base) ⌝ }
 {
-    (base(first) == b'u') & ((base(second) == b'o') & !after_q)
+    (rules::base(first) == b'u') & ((rules::base(second) == b'o') & !after_q)
 }
 
 // The first u followed directly by o, the u not directly after q.
@@ -109,7 +94,7 @@ pub fn pair(letters: &[u16]) -> Place
 fn is_single(after_q: bool, n: u16) -> bool
     ensures { λ r. ⌜ r ≡ isSingle «after_q» (letter n .base) ⌝ }
 {
-    let b = base(n);
+    let b = rules::base(n);
     ((b == b'o') | (b == b'u')) & !after_q
 }
 

@@ -1,5 +1,5 @@
 -- The answers by their tests: typing a list, and the three questions on a word.
-use mathlib.Core.Path.{_≡_, refl, sym, ap, subst, _∙_}
+use mathlib.Core.Path.{_≡_, refl, sym, ap}
 use mathlib.Core.Bool.{true, false, not, _&&_}
 use mathlib.Core.List.{List, [], _∷_, map}
 use Prim.Native.Nat.{ℕ, _+_, _-_, _/_, _%_, _≤_, _<_}
@@ -17,7 +17,7 @@ use Rattle.rules.specs.Decision.{keeps, startsWithĐ}
 use Rattle.rules.specs.Refusals.{all, isMode, allowedBefore, outOfRange, refusal}
 use Rattle.rules.specs.WhatComesBack.{typed, typeAll, placeAnswer, verdictAnswer, decisionAnswer}
 use Rattle.rules.specs.declared.Word.{Word}
-use Rattle.rules.specs.declared.TypeAnswer.the-variants.{Typed}
+use Rattle.rules.specs.declared.TypeAnswer.the-variants.{AllTyped}
 use Rattle.rules.specs.declared.PlaceAnswer.the-variants.{Found}
 use Rattle.rules.specs.declared.PlaceAnswer.the-variants.{Refused as PlaceRefused}
 use Rattle.rules.specs.declared.VerdictAnswer.the-variants.{Judged}
@@ -51,7 +51,7 @@ module _ (m : ℕ) (ks : List ℕ) where
   unfolding typeAll refusal
   not-a-key e h n = simp (e, le-ltb mostKeys (0 + length ks) (omega arith), n) (let z : 0 + allowedBefore m ks ≡ allowedBefore m ks = omega arith in ap (refusedOf 3) z)
 
-  pub all-typed : not (isMode m) ≡ false → length ks ≤ mostKeys → T (all (isKey m) ks) → typeAll m ks ≡ record { answer = Typed; word = holding (newWord m) (typed m ks) }
+  pub all-typed : not (isMode m) ≡ false → length ks ≤ mostKeys → T (all (isKey m) ks) → typeAll m ks ≡ record { answer = AllTyped; word = holding (newWord m) (typed m ks) }
   unfolding typeAll refusal
   all-typed e h t = let n : all (isKey m) ks ≡ true = is-true (all (isKey m) ks) t in simp (e, le-ltb mostKeys (0 + length ks) (omega arith), n)
 

@@ -108,7 +108,7 @@ fn refused(number: u8, value: usize) -> TypeAll
 pub fn type_all(mode: u8, keys: &[u8]) -> TypeAll
     ensures { λ r. ⌜ r ≡ typeAllOf mode (now (keys .entry)) ⌝ }
 {
-    if !((mode == Word::TELEX) | (mode == Word::VNI)) {
+    if !keys::is_mode(mode) {
         return refused(1, 0);
     }
     let n = keys.len();
@@ -120,7 +120,7 @@ pub fn type_all(mode: u8, keys: &[u8]) -> TypeAll
         return refused(3, allowed);
     }
     TypeAll {
-        answer: TypeAnswer::Typed,
+        answer: TypeAnswer::AllTyped,
         word: typed_all(mode, keys),
     }
 }
@@ -188,6 +188,5 @@ fn starts_with_d_stroke(letters: &[u16]) -> bool
     if letters.len() == 0 {
         return false;
     }
-    let first = letters[0];
-    (parts::base(first) == b'd') & (parts::shape(first) == STROKE)
+    rules::is(letters[0], b'd', STROKE)
 }

@@ -1,7 +1,6 @@
 -- `commit::commit` meets its contract: the part that the ruling names.
 use mathlib.Core.Path.{sym, ap, _∙_}
 use native.Mathlib.Nat.{zero-add}
-use native.Mathlib.Omega.{arith}
 use borrow.Author.Needs.{needs}
 use Rattle.commit.proofs.Parts.{kept-part, restored-part, refused-part}
 use Rattle.commit.specs.Rulings.{handedFrom}

@@ -1,14 +1,12 @@
 -- `commit::judge` meets its contract: what show wrote is the word's text, and the ruling follows from the comparison and the decision.
 use mathlib.Core.Path.{_≡_, sym, ap, _∙_}
-use mathlib.Core.List.{List}
-use Prim.Native.Nat.{ℕ}
 use native.Mathlib.Omega.{arith}
 use lib.ListN.{length}
 use borrow.Author.Needs.{needs}
 use borrow.Author.Tests.{not-true, not-false}
 use Rattle.rules.specs.Refusals.{sameBytes}
 use Rattle.rules.proofs.TextFits.{text-fits}
-use Rattle.rules.proofs.Answering.{is-written, so-long, its-front, its-decision, is-decided}
+use Rattle.rules.proofs.NotRefused.{is-written, so-long, its-front, its-decision, is-decided}
 use Rattle.commit.proofs.Answers.{other-text, kept, restored}
 use Rattle.commit.proofs.judge.Statement.{statement}
 use Rattle.commit.proofs.judge.Tie as tie

@@ -4,7 +4,7 @@ use borrow.Author.Needs.{needs}
 use Rattle.rules.specs.AnswersInNumbers.{outcomeNumbers}
 use Rattle.rules.specs.declared.Act.{Act}
 use Rattle.rules.specs.declared.Outcome.the-variants.{Acted}
-use Rattle.felcantuzza.specs.Calls.{packed}
+use Rattle.felcantuzza.specs.Calls.{inOne}
 use Rattle.felcantuzza.proofs.act_number.Statement.{statement}
 use Rattle.felcantuzza.proofs.act_number.Tie as tie
 
@@ -20,7 +20,7 @@ act-number-spec =
     (λ c. search needs)
     (λ c. search needs)
     (λ c. search needs)
-    (λ c. sym (ap (λ (a : Act). packed (outcomeNumbers (Acted a))) (c .before .act .given .1)))
-    (λ c. sym (ap (λ (a : Act). packed (outcomeNumbers (Acted a))) (c .before .act2 .given .1)))
+    (λ c. sym (ap (λ (a : Act). inOne (outcomeNumbers (Acted a))) (c .before .act .given .1)))
+    (λ c. sym (ap (λ (a : Act). inOne (outcomeNumbers (Acted a))) (c .before .act2 .given .1)))
     (λ c. search needs)
     (λ c. search needs))

@@ -1,7 +1,7 @@
 -- `felcantuzza::fz_commit` meets its contract: the ruling, as numbers.
 use borrow.Author.Needs.{needs}
 use Rattle.felcantuzza.specs.Calls as Calls
-use Rattle.felcantuzza.proofs.Tells.{tells, refuses, committed}
+use Rattle.felcantuzza.proofs.CallAnswers.{tells, refuses, committed}
 use Rattle.felcantuzza.proofs.fz_commit.Statement.{statement}
 use Rattle.felcantuzza.proofs.fz_commit.Tie as tie
 

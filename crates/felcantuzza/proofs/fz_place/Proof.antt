@@ -4,7 +4,7 @@ use borrow.Author.Needs.{needs}
 use borrow.Author.Tests.{not-true, not-false}
 use Rattle.felcantuzza.specs.Calls as Calls
 use Rattle.felcantuzza.specs.Calls.{placed as place-value}
-use Rattle.felcantuzza.proofs.Tells.{tells, refuses, none-placed, placed}
+use Rattle.felcantuzza.proofs.CallAnswers.{tells, refuses, none-placed, placed}
 use Rattle.felcantuzza.proofs.fz_place.Statement.{statement}
 use Rattle.felcantuzza.proofs.fz_place.Tie as tie
 

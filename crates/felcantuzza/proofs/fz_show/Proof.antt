@@ -5,7 +5,7 @@ use borrow.Author.Tests.{not-true, not-false}
 use Rattle.rules.specs.AnswersInNumbers.{writeSays}
 use Rattle.rules.proofs.Refused.{refused-show}
 use Rattle.felcantuzza.specs.Calls as Calls
-use Rattle.felcantuzza.proofs.Tells.{tells, refuses, changed, unchanged, none-shown, shown, shown-output}
+use Rattle.felcantuzza.proofs.CallAnswers.{tells, refuses, changed, unchanged, none-shown, shown, shown-output}
 use Rattle.felcantuzza.proofs.fz_show.Statement.{statement}
 use Rattle.felcantuzza.proofs.fz_show.Tie as tie
 

@@ -1,8 +1,7 @@
 -- `felcantuzza::fz_spell` meets its contract: the speller's answer, as numbers.
-use mathlib.Core.Path.{_∙_}
 use borrow.Author.Needs.{needs}
 use Rattle.felcantuzza.specs.Calls as Calls
-use Rattle.felcantuzza.proofs.Tells.{tells, refuses, spelled}
+use Rattle.felcantuzza.proofs.CallAnswers.{tells, refuses, spelled}
 use Rattle.felcantuzza.proofs.fz_spell.Statement.{statement}
 use Rattle.felcantuzza.proofs.fz_spell.Tie as tie
 

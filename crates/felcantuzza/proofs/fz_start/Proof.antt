@@ -2,9 +2,9 @@
 use mathlib.Core.Path.{ap, _∙_}
 use borrow.Author.Needs.{needs}
 use Rattle.rules.specs.declared.Start.{Start}
-use Rattle.layout.specs.Places.{written}
+use Rattle.layout.specs.Places.{recordWritten}
 use Rattle.felcantuzza.specs.Calls as Calls
-use Rattle.felcantuzza.proofs.Tells.{tells, refuses, changed, unchanged, no-room, started}
+use Rattle.felcantuzza.proofs.CallAnswers.{tells, refuses, changed, unchanged, no-room, started}
 use Rattle.felcantuzza.proofs.fz_start.Statement.{statement}
 use Rattle.felcantuzza.proofs.fz_start.Tie as tie
 
@@ -34,7 +34,7 @@ fz-start-spec =
     let args = long .before .before .args in
     let e = started (args .mode) (args .lent .now) (long .if1 .left) (begun .start .result) _ (begun .start .ensures) (known .enum-told .given .1) in
     let t = tells Calls.single (Calls.start (args .mode) (args .lent .now)) _ e (c .answered .ensures .0) (c .answered .ensures .1) in
-    (t .0, t .1, stored .write .ensures .1 ∙ ap (λ (x : Start). written (x .word) (args .lent .now)) (begun .start .ensures) ∙ changed (Calls.start (args .mode) (args .lent .now)) _ (args .lent .now) _ e))
+    (t .0, t .1, stored .write .ensures .1 ∙ ap (λ (x : Start). recordWritten (x .word) (args .lent .now)) (begun .start .ensures) ∙ changed (Calls.start (args .mode) (args .lent .now)) _ (args .lent .now) _ e))
     (λ c.
     let known = c .before .before .before in
     let begun = known .before .before in

@@ -1,20 +1,16 @@
 -- `felcantuzza::fz_type_and_show` meets its contract: into a short output by its own function; else no record, typed, stored and shown, or refused.
-use mathlib.Core.Path.{_≡_, refl, sym, ap, subst, _∙_}
-use mathlib.Core.List.{List}
-use native.Mathlib.Omega.{arith}
-use lib.ListN.{length}
+use mathlib.Core.Path.{refl, sym, ap, subst, _∙_}
 use borrow.Author.Needs.{needs}
 use borrow.Author.Tests.{not-true, not-false}
-use Rattle.rules.specs.TheWord.{mostKeys}
 use Rattle.rules.proofs.StaysInRange.{Whole}
-use Rattle.layout.specs.Places.{written}
-use Rattle.layout.specs.declared.Reading.{Reading}
+use Rattle.layout.specs.Places.{recordWritten}
+use Rattle.layout.specs.declared.RecordRead.{RecordRead}
 use Rattle.layout.proofs.RoundTrips.{read-whole}
 use Rattle.press.specs.StepAndShow.{stepAndShow}
 use Rattle.press.specs.declared.StepShown.{StepShown}
 use Rattle.press.proofs.Shows.{refused-so}
 use Rattle.felcantuzza.specs.Calls as Calls
-use Rattle.felcantuzza.proofs.Tells.{tells, refuses, changed, unchanged, none-typed-shown, typed-shown, typed-shown-word, typed-shown-output}
+use Rattle.felcantuzza.proofs.CallAnswers.{tells, refuses, changed, unchanged, none-typed-shown, typed-shown, typed-shown-word, typed-shown-output}
 use Rattle.felcantuzza.proofs.Rooms.{within, with-room}
 use Rattle.felcantuzza.proofs.fz_type_and_show.Statement.{statement}
 use Rattle.felcantuzza.proofs.fz_type_and_show.Tie as tie
@@ -51,7 +47,7 @@ fz-type-and-show-spec =
     let start = read .before .before .before .before .before in
     let args = start .args in
     let w = read .read .result .word in
-    let whole : Whole w = subst (λ (x : Reading). Whole (x .word)) (sym (read .read .ensures)) (read-whole (args .lent .now)) in
+    let whole : Whole w = subst (λ (x : RecordRead). Whole (x .word)) (sym (read .read .ensures)) (read-whole (args .lent .now)) in
     within w (args .key) (args .out .now) (done .step .result) (done .step .ensures) whole (told .answer .given .0 .0) (told .answer .given .1))
     (λ c κs. search needs)
     (λ c κs. search needs)
@@ -66,7 +62,7 @@ fz-type-and-show-spec =
     let start = read .before .before .before .before .before in
     let args = start .args in
     let w = read .read .result .word in
-    let whole : Whole w = subst (λ (x : Reading). Whole (x .word)) (sym (read .read .ensures)) (read-whole (args .lent .now)) in
+    let whole : Whole w = subst (λ (x : RecordRead). Whole (x .word)) (sym (read .read .ensures)) (read-whole (args .lent .now)) in
     let filled = c .before .before .before .before in
     let stored = filled .before .before .before .before .before .before .before .before in
     let both = with-room w (args .key) (args .out .now) (done .step .result) (done .step .ensures) whole (told .answer .given .0 .0) (told .answer .given .1)
@@ -77,7 +73,7 @@ fz-type-and-show-spec =
     let t = tells Calls.single said _ e (c .answered .ensures .0) (c .answered .ensures .1) in (
       t .0,
       t .1,
-      stored .write .ensures .1 ∙ ap (λ (x : StepShown). written (x .word) (args .lent .now)) (both .0) ∙ typed-shown-word (args .lent .now) (read .read .result) (read .read .ensures) (args .key) (args .out .now) all refl ∙ changed said _ (args .lent .now) _ e,
+      stored .write .ensures .1 ∙ ap (λ (x : StepShown). recordWritten (x .word) (args .lent .now)) (both .0) ∙ typed-shown-word (args .lent .now) (read .read .result) (read .read .ensures) (args .key) (args .out .now) all refl ∙ changed said _ (args .lent .now) _ e,
       both .1 ∙ typed-shown-output (args .lent .now) (read .read .result) (read .read .ensures) (args .key) (args .out .now) ∙ changed said _ (args .out .now) _ e,
     ))
     (λ c. search needs)

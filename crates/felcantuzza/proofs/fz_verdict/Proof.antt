@@ -3,7 +3,7 @@ use borrow.Author.Needs.{needs}
 use borrow.Author.Tests.{not-true, not-false}
 use Rattle.felcantuzza.specs.Calls as Calls
 use Rattle.felcantuzza.specs.Calls.{single}
-use Rattle.felcantuzza.proofs.Tells.{tells, refuses, none-judged, judged}
+use Rattle.felcantuzza.proofs.CallAnswers.{tells, refuses, none-judged, judged}
 use Rattle.felcantuzza.proofs.fz_verdict.Statement.{statement}
 use Rattle.felcantuzza.proofs.fz_verdict.Tie as tie
 

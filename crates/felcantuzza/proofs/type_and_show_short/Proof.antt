@@ -4,7 +4,7 @@ use borrow.Author.Needs.{needs}
 use borrow.Author.Tests.{not-true, not-false}
 use Rattle.press.specs.declared.StepShown.{StepShown}
 use Rattle.felcantuzza.specs.Calls as Calls
-use Rattle.felcantuzza.proofs.Tells.{tells, refuses, changed, unchanged, none-typed-shown, typed-shown, typed-shown-word, typed-shown-output, refused-both}
+use Rattle.felcantuzza.proofs.CallAnswers.{tells, refuses, changed, unchanged, none-typed-shown, typed-shown, typed-shown-word, typed-shown-output, refused-both}
 use Rattle.felcantuzza.proofs.type_and_show_short.Statement.{statement}
 use Rattle.felcantuzza.proofs.type_and_show_short.Tie as tie
 

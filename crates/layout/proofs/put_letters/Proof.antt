@@ -1,8 +1,8 @@
 -- `layout::put_letters` meets its contract. The loop's invariant: the pairs of the first letters are written.
-use mathlib.Core.Path.{_≡_, refl, sym, _∙_}
+use mathlib.Core.Path.{refl, sym, _∙_}
 use Prim.Native.Nat.{_-_}
 use native.Mathlib.Omega.{arith}
-use lib.ListN.{length, length-set}
+use lib.ListN.{length-set}
 use borrow.Author.Needs.{needs}
 use Rattle.layout.proofs.Pairs.{WrittenSoFar, write-on, all-written}
 use Rattle.layout.proofs.put_letters.Statement.{statement}

@@ -1,6 +1,7 @@
 -- `letters::point` meets its contract: each way out is one case of the code point.
-use mathlib.Core.Path.{_≡_, _∙_, sym, ap}
+use mathlib.Core.Path.{_≡_, _∙_, sym, ap, subst}
 use mathlib.Core.Bool.{Bool, not, true, false}
+use Prim.Native.Nat.{ℕ, _≤_}
 use native.Mathlib.Omega.{arith}
 use borrow.Author.Needs.{needs}
 use borrow.Author.Tests.{not-true, not-false}
@@ -39,16 +40,18 @@ returns-6 c =
 
 in-case-requires-3 : tie.Need-in-case-requires-3
 in-case-requires-3 c κs =
-    let l = c .before .before .before in
+    let l = c .before .before .before .before in
     let s = l .before .before .before .before .before in
-    letter-rowed (s .args .letter) (as-letter (l .is-letter .ensures) (c .before .before .if4 .left)) .above
+    subst (λ (b : ℕ). 32 ≤ b) (sym (c .base .ensures)) (letter-rowed (s .args .letter) (as-letter (l .is-letter .ensures) (c .before .before .before .if4 .left)) .above)
 
 returns-7 : tie.Need-returns-7
 returns-7 c =
-    let l = c .before .before .before .before in
+    let b = c .before in
+    let l = b .before .before .before .before in
     let r = l .before .before in
     let s = r .before .before .before in
-    c .in-case3 .ensures ∙ no-row-plain (s .args .letter) (r .row .result) (as-letter (l .is-letter .ensures) (c .before .before .before .if4 .left)) (r .row .ensures) (omega arith) (s .args .tone) (omega arith) (c .before .if6 .left)
+    c .in-case3 .ensures ∙ ap (inCase (letter (s .args .letter) .capital)) (b .base .ensures)
+    ∙ no-row-plain (s .args .letter) (r .row .result) (as-letter (l .is-letter .ensures) (b .before .before .before .if4 .left)) (r .row .ensures) (omega arith) (s .args .tone) (omega arith) (b .before .if6 .left)
 
 pub point-spec : {M : Type 1} → statement M
 point-spec =
@@ -68,5 +71,7 @@ point-spec =
     returns-5
     (λ c κs. omega arith)
     returns-6
+    (λ c κs. search needs)
+    (λ c. search needs)
     in-case-requires-3
     returns-7)

@@ -5,7 +5,7 @@ use Rattle.rules.specs.TheWord.{wordOf}
 use Rattle.rules.specs.Drill.{wordLine}
 use Rattle.rules.specs.Refusals.{outOfRange}
 use Rattle.rules.specs.declared.TypeAll.{TypeAll}
-use Rattle.rules.proofs.Answering.{typed-in-range}
+use Rattle.rules.proofs.NotRefused.{typed-in-range}
 use Rattle.lines.proofs.Columns.{as-part}
 use Rattle.lines.proofs.Words.{refused-keys, small-value, typed-keys}
 use Rattle.lines.proofs.keys_line.Statement.{statement}

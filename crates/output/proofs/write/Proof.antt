@@ -1,5 +1,5 @@
 -- `output::write` meets its contract, by that of `bytes::copy`.
-use mathlib.Core.Path.{_≡_, ap, sym, _∙_}
+use mathlib.Core.Path.{ap, sym, _∙_}
 use borrow.Author.Needs.{needs}
 use Rattle.rules.specs.WhatComesBack.{Written}
 use Rattle.rules.specs.declared.WriteAnswer.the-variants.{Wrote}

@@ -6,7 +6,7 @@ use native.Mathlib.Omega.{arith}
 use lib.ListN.{length}
 use lib.Seq.{sets}
 use borrow.Author.Needs.{needs}
-use Rattle.letters.specs.Writing.{written}
+use Rattle.letters.specs.Writing.{letterBytes}
 use Rattle.letters.proofs.Writes.{own-byte, fits-a-byte}
 use Rattle.show.specs.Filling.{toneIf}
 use Rattle.show.proofs.Puts.{one-put}
@@ -22,8 +22,8 @@ put-letter-spec =
     let done = c .before .before in
     let yes = done .before .before in
     let args = yes .before .before .args in (
-      done .put-marked .ensures .0 ∙ ap (λ (b : Bool). args .at + length (written (args .letter) (toneIf b (args .tone)))) (sym (yes .if1 .taken)),
-      done .put-marked .ensures .1 ∙ ap (λ (b : Bool). sets (args .text .now) (args .at) (written (args .letter) (toneIf b (args .tone)))) (sym (yes .if1 .taken)),
+      done .put-marked .ensures .0 ∙ ap (λ (b : Bool). args .at + length (letterBytes (args .letter) (toneIf b (args .tone)))) (sym (yes .if1 .taken)),
+      done .put-marked .ensures .1 ∙ ap (λ (b : Bool). sets (args .text .now) (args .at) (letterBytes (args .letter) (toneIf b (args .tone)))) (sym (yes .if1 .taken)),
     ))
     (λ c κs. search needs)
     (λ c.
@@ -36,7 +36,7 @@ put-letter-spec =
     let no = c .before .before in
     let args = no .before .before .args in
     let own = own-byte (args .letter) (sym (c .before .is-plain .ensures) ∙ c .if2 .taken) in
-    let p = one-put (args .text .now) (args .at) (written (args .letter) (toneIf (args .toned) (args .tone))) (args .letter) (ap (λ (b : Bool). written (args .letter) (toneIf b (args .tone))) (no .if1 .left) ∙ sym own) in
+    let p = one-put (args .text .now) (args .at) (letterBytes (args .letter) (toneIf (args .toned) (args .tone))) (args .letter) (ap (λ (b : Bool). letterBytes (args .letter) (toneIf b (args .tone))) (no .if1 .left) ∙ sym own) in
     (p .next, p .bytes))
     (λ c κs. search needs)
     (λ c. search needs)
@@ -44,6 +44,6 @@ put-letter-spec =
     let done = c .before .before in
     let no = done .before .before .before .before in
     let args = no .before .before .args in (
-      done .put-marked2 .ensures .0 ∙ ap (λ (b : Bool). args .at + length (written (args .letter) (toneIf b (args .tone)))) (sym (no .if1 .left)),
-      done .put-marked2 .ensures .1 ∙ ap (λ (b : Bool). sets (args .text .now) (args .at) (written (args .letter) (toneIf b (args .tone)))) (sym (no .if1 .left)),
+      done .put-marked2 .ensures .0 ∙ ap (λ (b : Bool). args .at + length (letterBytes (args .letter) (toneIf b (args .tone)))) (sym (no .if1 .left)),
+      done .put-marked2 .ensures .1 ∙ ap (λ (b : Bool). sets (args .text .now) (args .at) (letterBytes (args .letter) (toneIf b (args .tone)))) (sym (no .if1 .left)),
     )))

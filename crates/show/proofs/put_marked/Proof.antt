@@ -5,12 +5,12 @@ use Prim.Native.Nat.{ℕ, _+_}
 use lib.ListN.{length}
 use lib.Seq.{sets}
 use borrow.Author.Needs.{needs}
-use Rattle.letters.specs.Writing.{pointOr, bytesIf, written}
+use Rattle.letters.specs.Writing.{pointOr, bytesIf, letterBytes}
 use Rattle.letters.proofs.Writes.{point-bytes}
 use Rattle.show.proofs.put_marked.Statement.{statement}
 use Rattle.show.proofs.put_marked.Tie as tie
 
-bytes-of : {p : ℕ} (n t : ℕ) → p ≡ pointOr n t → bytesIf p ≡ written n t
+bytes-of : {p : ℕ} (n t : ℕ) → p ≡ pointOr n t → bytesIf p ≡ letterBytes n t
 bytes-of n t e = ap bytesIf e ∙ point-bytes n t
 
 pub put-marked-spec : {M : Type 1} → statement M

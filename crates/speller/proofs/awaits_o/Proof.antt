@@ -21,4 +21,4 @@ awaits-o-spec =
     (λ c.
     let more = c .before .before .before .before in
     let at = more .before .before in
-    ap₂ _&&_ (c .before .before .is-horned .ensures) (c .is-horned2 .ensures) ∙ awaits-next (at .args .letters .now) (at .args .i) (at .pre) (more .if1 .left)))
+    ap₂ _&&_ (c .before .before .is .ensures) (c .is2 .ensures) ∙ awaits-next (at .args .letters .now) (at .args .i) (at .pre) (more .if1 .left)))

@@ -8,7 +8,7 @@ use lib.Dec.{eqb}
 use lib.ListN.{take, length-set}
 use borrow.Author.Needs.{needs}
 use Rattle.rules.specs.Letters.{plain}
-use Rattle.speller.specs.Held.{keysFrom}
+use Rattle.speller.specs.TextRead.{keysFrom}
 use Rattle.speller.proofs.KeyLists.{has-capital, keysIf, keys-here, put-key, put-two}
 use Rattle.speller.proofs.put_letter.Statement.{statement}
 use Rattle.speller.proofs.put_letter.Tie as tie

@@ -7,7 +7,7 @@ use lib.ListN.{length, take, length-set}
 use borrow.Author.Needs.{needs}
 use Rattle.rules.specs.TheWord.{letter}
 use Rattle.rules.specs.Speller.{letterKeys}
-use Rattle.speller.specs.Held.{keysFrom}
+use Rattle.speller.specs.TextRead.{keysFrom}
 use Rattle.speller.proofs.KeyLists.{put-key, all-put, no-tone-key, tone-key-last}
 use Rattle.speller.proofs.put_standard_keys.Statement.{statement}
 use Rattle.speller.proofs.put_standard_keys.Tie as tie

@@ -1,7 +1,7 @@
 -- `speller::same_place` meets its contract: only two places that are both at a letter are left to compare.
 use mathlib.Core.Path.{sym, ap₂}
 use borrow.Author.Needs.{needs}
-use Rattle.speller.specs.Held.{samePlace}
+use Rattle.speller.specs.TextRead.{samePlace}
 use Rattle.speller.proofs.same_place.Statement.{statement}
 use Rattle.speller.proofs.same_place.Tie as tie
 

@@ -1,7 +1,7 @@
 -- `step::counted` meets its contract: each arm raises the count of its outcome.
 use mathlib.Core.Path.{sym, ap}
 use borrow.Author.Needs.{needs}
-use Rattle.step.specs.Held.{countedIn}
+use Rattle.step.specs.LentLetters.{countedIn}
 use Rattle.step.proofs.States.{neither}
 use Rattle.step.proofs.counted.Statement.{statement}
 use Rattle.step.proofs.counted.Tie as tie

@@ -3,7 +3,7 @@ use mathlib.Core.Path.{ap}
 use borrow.Author.Needs.{needs}
 use Rattle.rules.specs.KeyRoles.{letterOfKey}
 use Rattle.step.specs.declared.Edit.{Edit}
-use Rattle.step.specs.Held.{stateIn, afterEdit}
+use Rattle.step.specs.LentLetters.{stateIn, afterEdit}
 use Rattle.step.proofs.States.{same, as-acted, as-ruled, no-edit}
 use Rattle.step.proofs.edit_does.Statement.{statement}
 use Rattle.step.proofs.edit_does.Tie as tie

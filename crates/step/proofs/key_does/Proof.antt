@@ -10,7 +10,7 @@ use Rattle.rules.specs.KeyRoles.{letterOfKey, unlessClosed, roleDoes, role}
 use Rattle.rules.specs.declared.Role.{Role}
 use Rattle.rules.proofs.Edits.{good-shape, good-stroke}
 use Rattle.step.specs.declared.Rest.{Rest}
-use Rattle.step.specs.Held.{stateIn, unlessClosedRole}
+use Rattle.step.specs.LentLetters.{stateIn, unlessClosedRole}
 use Rattle.step.proofs.States.{as-ruled, room-after, edit-then}
 use Rattle.step.proofs.key_does.Statement.{statement}
 use Rattle.step.proofs.key_does.Tie as tie

@@ -3,7 +3,7 @@ use mathlib.Core.Path.{sym, ap, _∙_}
 use mathlib.Core.Bool.{Bool}
 use borrow.Author.Needs.{needs}
 use Rattle.rules.specs.KeyRoles.{role}
-use Rattle.step.specs.Held.{unlessClosedRole}
+use Rattle.step.specs.LentLetters.{unlessClosedRole}
 use Rattle.step.proofs.role_in.Statement.{statement}
 use Rattle.step.proofs.role_in.Tie as tie
 

@@ -3,7 +3,7 @@ use mathlib.Core.Path.{ap, _∙_}
 use borrow.Author.Needs.{needs}
 use Rattle.rules.specs.WhatComesBack.{step}
 use Rattle.records.specs.declared.Numbers.{Numbers}
-use Rattle.step.specs.LentWord.{wordIn}
+use Rattle.records.specs.Numbers.{wordIn}
 use Rattle.step.proofs.step.Statement.{statement}
 use Rattle.step.proofs.step.Tie as tie
 

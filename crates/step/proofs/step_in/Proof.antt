@@ -6,7 +6,8 @@ use borrow.Author.Needs.{needs}
 use borrow.Author.Tests.{not-true, not-false}
 use Rattle.rules.specs.TheWord.{mostKeys}
 use Rattle.records.proofs.Conditions.{typed-small, count-small, by-numbers, by-keys, by-letters}
-use Rattle.step.specs.LentWord.{wordIn, stepIn}
+use Rattle.step.specs.LentWord.{stepIn}
+use Rattle.records.specs.Numbers.{wordIn}
 use Rattle.step.proofs.Steps.{out-of-range, full, no-key}
 use Rattle.step.proofs.step_in.Statement.{statement}
 use Rattle.step.proofs.step_in.Tie as tie

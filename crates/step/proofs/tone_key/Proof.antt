@@ -8,7 +8,7 @@ use Rattle.rules.specs.KeyRoles.{letterOfKey, undo, toneGoes, toneDoes}
 use Rattle.rules.specs.declared.ToneKey.{ToneKey}
 use Rattle.rules.specs.declared.Act.the-variants.{Tone, Clear}
 use Rattle.step.specs.declared.Rest.{Rest}
-use Rattle.step.specs.Held.{Room, stateIn}
+use Rattle.step.specs.LentLetters.{RoomForLetter, stateIn}
 use Rattle.step.proofs.Arrays.{is-front}
 use Rattle.step.proofs.States.{tones, as-acted, as-ruled}
 use Rattle.step.proofs.Rulings.{clear-none, clear-acts, tone-undone, tone-not-there}
@@ -40,7 +40,7 @@ tone-key-spec =
     (λ c κs. search needs)
     (λ c κs.
     let at = c .before .before .before .before .before .before .before in
-    subst (λ (r : Rest). Room (at .args .letters .now) (r .count)) (sym (c .with-tone2 .ensures)) (at .pre))
+    subst (λ (r : Rest). RoomForLetter (at .args .letters .now) (r .count)) (sym (c .with-tone2 .ensures)) (at .pre))
     (λ c. search needs)
     (λ c.
     let set = c .before .before .before in

@@ -1,9 +1,9 @@
 -- `step::typed` meets its contract: what the key did, kept and counted, is what the step rule says of a key that is taken.
 use mathlib.Core.Path.{_∙_}
 use borrow.Author.Needs.{needs}
-use Rattle.rules.specs.TheWord.{mostKeys, wordOf}
+use Rattle.rules.specs.TheWord.{wordOf}
 use Rattle.rules.specs.KeyRoles.{keyDoes}
-use Rattle.step.specs.LentWord.{wordIn}
+use Rattle.records.specs.Numbers.{wordIn}
 use Rattle.step.proofs.Steps.{room-in, kept, accepted, in-range-of, ready}
 use Rattle.step.proofs.typed.Statement.{statement}
 use Rattle.step.proofs.typed.Tie as tie

@@ -8,14 +8,14 @@ use native.Mathlib.Omega.{arith}
 use lib.Dec.{eqb}
 use lib.ListN.{take, drop}
 use borrow.Author.Tests.{eq-eqb, ne-eqb, not-true, not-false}
-use Rattle.rules.specs.Letters.{Letters, isNil, oneOf}
+use Rattle.rules.specs.Letters.{Letters, isNil}
 use Rattle.rules.specs.TheWord.{letter}
-use Rattle.rules.specs.TakingApart.{initial, nucleus, final, leftovers, finals, listed, fits, check, firstThatHolds}
-use Rattle.syllable.specs.Numbers.{Codes}
+use Rattle.rules.specs.TakingApart.{initial, nucleus, final, leftovers, listed, fits, check, firstThatHolds}
+use Rattle.syllable.specs.Numbers.{Packs}
 use Rattle.syllable.specs.Checks.{initialFault, sixth, asked}
 use Rattle.parts.specs.declared.Parts.{Parts}
 use Rattle.parts.proofs.Splits.{Cut, cut}
-use Rattle.syllable.proofs.Codes.{coded}
+use Rattle.syllable.proofs.PackedWords.{packs}
 use Rattle.syllable.proofs.Asks.{listed-free, faultOf, answered}
 use Rattle.syllable.proofs.ask.Statement.{statement}
 use Rattle.syllable.proofs.ask.Tie as tie
@@ -45,11 +45,11 @@ module _ (c : tie.After-initial-fault) where
   abbrev at : tie.After-apart
   at = c .before .before .before .before .before .before .before
 
-  ini : Codes (c .before .before .before .before .code .result) (initial (w at))
-  ini = coded (take (cuts at .initial - 0) (drop 0 (s at))) (c .before .before .before .before .code .ensures) (parts at .ini)
+  ini : Packs (c .before .before .before .before .packed .result) (initial (w at))
+  ini = packs (take (cuts at .initial - 0) (drop 0 (s at))) (c .before .before .before .before .packed .ensures) (parts at .ini)
 
-  nuc : Codes (c .before .before .code2 .result) (nucleus (w at))
-  nuc = coded (take (cuts at .nucleus - cuts at .initial) (drop (cuts at .initial) (s at))) (c .before .before .code2 .ensures) (parts at .nuc)
+  nuc : Packs (c .before .before .packed2 .result) (nucleus (w at))
+  nuc = packs (take (cuts at .nucleus - cuts at .initial) (drop (cuts at .initial) (s at))) (c .before .before .packed2 .ensures) (parts at .nuc)
 
   fault : (n : ℕ) {b : Bool} → eqb (c .initial-fault .result) n ≡ b → b ≡ eqb (faultOf (w at)) n
   fault n e =
@@ -73,8 +73,8 @@ module _ (c : tie.After-known-final) where
   abbrev start : tie.After-apart
   start = at past
 
-  fin : Codes (c .before .code3 .result) (final (w start))
-  fin = coded (take (cuts start .end - cuts start .nucleus) (drop (cuts start .nucleus) (s start))) (c .before .code3 .ensures) (parts start .fin)
+  fin : Packs (c .before .packed3 .result) (final (w start))
+  fin = packs (take (cuts start .end - cuts start .nucleus) (drop (cuts start .nucleus) (s start))) (c .before .packed3 .ensures) (parts start .fin)
 
   then : {five six seven : Bool} → not (c .known-final .result) ≡ five → six ≡ not (sixth (free start) (w start)) → seven ≡ not (fits (final (w start)) (tone start)) →
       firstThatHolds (check 5 five ∷ check 6 six ∷ check 7 seven ∷ []) ≡ asked (w start) (tone start) (free start)

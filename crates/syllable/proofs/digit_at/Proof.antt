@@ -1,6 +1,6 @@
 -- `syllable::digit_at` meets its contract. Assumes nothing.
 use native.Mathlib.Omega.{arith}
-use Rattle.syllable.proofs.Codes.{digit-here, digit-past}
+use Rattle.syllable.proofs.PackedWords.{digit-here, digit-past}
 use Rattle.syllable.proofs.digit_at.Statement.{statement}
 use Rattle.syllable.proofs.digit_at.Tie as tie
 

@@ -1,6 +1,6 @@
 -- `syllable::first_base` meets its contract. Assumes nothing.
 use native.Mathlib.Omega.{arith}
-use Rattle.syllable.proofs.Codes.{first-is}
+use Rattle.syllable.proofs.PackedWords.{first-is}
 use Rattle.syllable.proofs.first_base.Statement.{statement}
 use Rattle.syllable.proofs.first_base.Tie as tie
 

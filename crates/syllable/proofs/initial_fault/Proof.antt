@@ -8,10 +8,10 @@ use lib.Dec.{T, eqb}
 use lib.ListN.{getD}
 use Rattle.rules.specs.Letters.{Letters, elem, among, word, words, oneOf}
 use Rattle.rules.specs.TakingApart.{initials, implies, fit, check, firstThatHolds}
-use Rattle.syllable.specs.Numbers.{num, nums, Codes}
+use Rattle.syllable.specs.Numbers.{num, nums, Packs}
 use Rattle.rules.proofs.Tests.{is-true}
 use Rattle.parts.proofs.Bools.{and-true}
-use Rattle.syllable.proofs.Codes.{same-is, one-is}
+use Rattle.syllable.proofs.PackedWords.{same-is, one-is}
 use Rattle.syllable.proofs.Keys.{Key, keys, every, holds, isIn, is-one, no-one}
 use Rattle.syllable.proofs.initial_fault.Statement.{statement}
 use Rattle.syllable.proofs.initial_fault.Tie as tie
@@ -27,7 +27,7 @@ abbrev ruled : ℕ → ℕ → Bool
 ruled v p =
     rule (elem p (nums (words "c ng"))) (eqb p (num (word "g"))) (eqb p (num (word "k"))) (elem p (nums (words "gh ngh"))) (eqb p (num (word "gi"))) (eqb p (num (word "qu"))) v
 
-is-fit : {p : ℕ} {w : Letters} → Codes p w → (v : ℕ) → ruled v p ≡ fit w v
+is-fit : {p : ℕ} {w : Letters} → Packs p w → (v : ℕ) → ruled v p ≡ fit w v
 unfolding fit
 is-fit c v j =
     rule (one-is c (words "c ng") tt j) (same-is c (word "g") tt j) (same-is c (word "k") tt j) (one-is c (words "gh ngh") tt j) (same-is c (word "gi") tt j) (same-is c (word "qu") tt j) v
@@ -55,7 +55,7 @@ arm k = getD arms k []
 abbrev Known : Letters → ℕ → Bool → Type 0
 Known w v b = (true ≡ oneOf w initials) × (b ≡ fit w v)
 
-module _ (c : tie.At-match-came) {w : Letters} (h : Codes (c .before .args .ini) w) where
+module _ (c : tie.At-match-came) {w : Letters} (h : Packs (c .before .args .ini) w) where
   abbrev v : ℕ
   v = c .before .args .v
 

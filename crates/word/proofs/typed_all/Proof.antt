@@ -12,7 +12,7 @@ use Rattle.rules.specs.declared.Word.{Word}
 use Rattle.rules.specs.declared.Start.{Start}
 use Rattle.rules.specs.declared.Step.{Step}
 use Rattle.records.specs.Numbers.{numbersOf}
-use Rattle.step.specs.LentWord.{wordIn}
+use Rattle.records.specs.Numbers.{wordIn}
 use Rattle.word.proofs.Lists.{one-more, started}
 use Rattle.word.proofs.typed_all.Statement.{statement}
 use Rattle.word.proofs.typed_all.Tie as tie

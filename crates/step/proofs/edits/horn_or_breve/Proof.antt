@@ -8,7 +8,7 @@ use borrow.Author.Needs.{needs}
 use Rattle.rules.specs.Letters.{horn, breve}
 use Rattle.rules.specs.TheWord.{letter}
 use Rattle.rules.specs.KeyRoles.{asked, horned, breved}
-use Rattle.step.specs.Held.{Given}
+use Rattle.step.specs.LentLetters.{LettersInFront}
 use Rattle.step.proofs.Tries.{untouched, second, only-first}
 use Rattle.step.proofs.edits.horn_or_breve.Statement.{statement}
 use Rattle.step.proofs.edits.horn_or_breve.Tie as tie
@@ -23,7 +23,7 @@ horn-or-breve-spec =
     let told = c .before in
     let tried = told .before .before .before .before in
     let at = tried .before .before .before in
-    (subst (λ (l : List ℕ). Given l (at .args .count)) (sym (untouched (tried .horn-edit .ensures) (told .enum-told .given .1))) (at .pre), lit< tt))
+    (subst (λ (l : List ℕ). LettersInFront l (at .args .count)) (sym (untouched (tried .horn-edit .ensures) (told .enum-told .given .1))) (at .pre), lit< tt))
     (λ c. search needs)
     (λ c.
     let told = c .before .before .before .before in

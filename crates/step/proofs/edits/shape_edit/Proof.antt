@@ -11,7 +11,7 @@ use Rattle.rules.specs.KeyRoles.{asked, last, shapeEdit}
 use Rattle.rules.specs.declared.ShapeKey.{ShapeKey}
 use Rattle.targets.specs.Places.{wanted}
 use Rattle.step.specs.declared.Edit.{Edit}
-use Rattle.step.specs.Held.{Edits}
+use Rattle.step.specs.LentLetters.{Edits}
 use Rattle.step.proofs.edits.shape_edit.Statement.{statement}
 use Rattle.step.proofs.edits.shape_edit.Tie as tie
 

@@ -32,7 +32,7 @@ stroke-edit-spec =
     let test = c .before in
     let at = test .before .before .before .before .before in
     let h : 0 < at .args .count = omega arith in
-    stroke-off (at .args .letters .now) (at .args .count) (at .pre) h (c .reshaped .result) (c .reshaped .ensures) (sym (test .before .is-d .ensures) ∙ test .if2 .taken))
+    stroke-off (at .args .letters .now) (at .args .count) (at .pre) h (c .reshaped .result) (c .reshaped .ensures) (sym (test .before .is .ensures) ∙ test .if2 .taken))
     (λ c κs. search needs)
     (λ c. search needs)
     (λ c. search needs)
@@ -47,8 +47,8 @@ stroke-edit-spec =
     let test = plain .before in
     let at = test .before .before .before .before .before in
     let h : 0 < at .args .count = omega arith in
-    stroke-on (at .args .letters .now) (at .args .count) (at .pre) h (c .reshaped2 .result) (c .reshaped2 .ensures) (sym (test .before .is-d .ensures) ∙ test .if2 .left)
-    (sym (asks (at .args .count) (at .args .letters .now) (plain .is-d2 .ensures) (asked .admitted .ensures)) ∙ c .before .if3 .taken))
+    stroke-on (at .args .letters .now) (at .args .count) (at .pre) h (c .reshaped2 .result) (c .reshaped2 .ensures) (sym (test .before .is .ensures) ∙ test .if2 .left)
+    (sym (asks (at .args .count) (at .args .letters .now) (plain .is2 .ensures) (asked .admitted .ensures)) ∙ c .before .if3 .taken))
     (λ c. search needs)
     (λ c.
     let asked = c .before in
@@ -56,5 +56,5 @@ stroke-edit-spec =
     let test = plain .before in
     let at = test .before .before .before .before .before in
     let h : 0 < at .args .count = omega arith in
-    stroke-none (at .args .letters .now) (at .args .count) (at .pre) h (sym (test .before .is-d .ensures) ∙ test .if2 .left)
-    (sym (asks (at .args .count) (at .args .letters .now) (plain .is-d2 .ensures) (asked .admitted .ensures)) ∙ c .if3 .left)))
+    stroke-none (at .args .letters .now) (at .args .count) (at .pre) h (sym (test .before .is .ensures) ∙ test .if2 .left)
+    (sym (asks (at .args .count) (at .args .letters .now) (plain .is2 .ensures) (asked .admitted .ensures)) ∙ c .if3 .left)))

@@ -2,7 +2,7 @@
 use mathlib.Core.Path.{sym, ap, _∙_}
 use mathlib.Core.Bool.{_&&_}
 use Rattle.parts.proofs.Bools.{and-false}
-use Rattle.syllable.proofs.Codes.{codes}
+use Rattle.syllable.proofs.PackedWords.{table-packs}
 use Rattle.syllable.proofs.Searches.{listed-is, takes-none}
 use Rattle.syllable.proofs.nuclei.listed.Statement.{statement}
 use Rattle.syllable.proofs.nuclei.listed.Tie as tie
@@ -13,5 +13,5 @@ listed-spec =
     (λ c κs. tt)
     (λ c κs. tt)
     (λ c w v f i n q. let s = c .before .stands .result in let t = c .takes .result in
-    listed-is n w f (s && t) (λ z h j. c .before .stands .ensures w z i (codes h) j && c .takes .ensures w z f i (codes h) q j)
+    listed-is n w f (s && t) (λ z h j. c .before .stands .ensures w z i (table-packs h) j && c .takes .ensures w z f i (table-packs h) q j)
     (λ e. ap (_&&_ s) (c .takes .ensures w v f i n q ∙ takes-none n w f e) ∙ sym (and-false s))))

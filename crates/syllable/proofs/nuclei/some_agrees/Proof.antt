@@ -6,7 +6,7 @@ use Prim.Native.Nat.{ℕ}
 use lib.ListN.{getD}
 use Rattle.rules.specs.Letters.{Letters}
 use Rattle.rules.specs.TakingApart.{couldBe, someAgrees}
-use Rattle.syllable.specs.Numbers.{Codes, Numbers}
+use Rattle.syllable.specs.Numbers.{Packs, Numbers}
 use Rattle.syllable.specs.Nuclei.{rowOf, withBases}
 use Rattle.syllable.specs.declared.nuclei.Three.{Three}
 use Rattle.syllable.proofs.Bases.{short-with}
@@ -29,7 +29,7 @@ module _ (c : tie.After-with-bases) where
   third = record { is = ap (λ (t : Three). t .2) (c .with-bases .ensures .0); short = short-with (c .before .plain .result) 2 }
 
   -- what they answer is the answer
-  whole : {v : Letters} (w f : Letters) → Codes (c .before .before .before .args .nuc) v → (a b d : Bool) → a ≡ couldBe w v f (rowOf (nucleus 0)) (nucleus 0) → b ≡ couldBe w v f (rowOf (nucleus 1)) (nucleus 1) → d ≡ couldBe w v f (rowOf (nucleus 2)) (nucleus 2) → (a || (b || d)) ≡ someAgrees w v f
+  whole : {v : Letters} (w f : Letters) → Packs (c .before .before .before .args .nuc) v → (a b d : Bool) → a ≡ couldBe w v f (rowOf (nucleus 0)) (nucleus 0) → b ≡ couldBe w v f (rowOf (nucleus 1)) (nucleus 1) → d ≡ couldBe w v f (rowOf (nucleus 2)) (nucleus 2) → (a || (b || d)) ≡ someAgrees w v f
   whole w f n a b d ea eb ed = (λ j. ea j || (eb j || ed j)) ∙ some-is n w f (c .before .plain .result) (c .before .plain .ensures) (c .before .before .if1 .left) (c .with-bases .ensures .1)
 
 pub some-agrees-spec : {M : Type 1} → statement M

@@ -6,13 +6,13 @@ use lib.Dec.{eqb, leb}
 use borrow.Author.Tests.{eq-eqb, ne-eqb}
 use Rattle.rules.specs.Letters.{Letters, elem, word, words}
 use Rattle.rules.specs.TakingApart.{implies, stands}
-use Rattle.syllable.specs.Numbers.{num, nums, Codes}
+use Rattle.syllable.specs.Numbers.{num, nums, Packs}
 use Rattle.parts.proofs.Bools.{and-true}
-use Rattle.syllable.proofs.Codes.{same-is, one-is, none-is, begins-o}
+use Rattle.syllable.proofs.PackedWords.{same-is, one-is, none-is, begins-o}
 use Rattle.syllable.proofs.nuclei.stands.Statement.{statement}
 use Rattle.syllable.proofs.nuclei.stands.Tie as tie
 
-module _ {p q : ℕ} {w v : Letters} (i : Codes p w) (n : Codes q v) where
+module _ {p q : ℕ} {w v : Letters} (i : Packs p w) (n : Packs q v) where
   abbrev yê : Bool
   yê = elem q (nums (words "yê yêu"))
 

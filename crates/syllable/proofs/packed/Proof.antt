@@ -7,9 +7,9 @@ use native.Mathlib.Omega.{arith}
 use Rattle.rules.specs.Letters.{Letters}
 use Rattle.rules.specs.TheWord.{letter}
 use Rattle.syllable.specs.Numbers.{digitAt, more}
-use Rattle.syllable.proofs.Codes.{digits-short, digits-long}
-use Rattle.syllable.proofs.code.Statement.{statement}
-use Rattle.syllable.proofs.code.Tie as tie
+use Rattle.syllable.proofs.PackedWords.{digits-short, digits-long}
+use Rattle.syllable.proofs.packed.Statement.{statement}
+use Rattle.syllable.proofs.packed.Tie as tie
 
 module _ (c : tie.After-digit-at3) where
   abbrev w : Letters
@@ -18,8 +18,8 @@ module _ (c : tie.After-digit-at3) where
   three : c .before .before .digit-at .result + 4096 * (c .before .digit-at2 .result + 4096 * c .digit-at3 .result) ≡ digitAt 0 w + 4096 * (digitAt 1 w + 4096 * digitAt 2 w)
   three j = c .before .before .digit-at .ensures .0 j + 4096 * (c .before .digit-at2 .ensures .0 j + 4096 * c .digit-at3 .ensures .0 j)
 
-pub code-spec : {M : Type 1} → statement M
-code-spec =
+pub packed-spec : {M : Type 1} → statement M
+packed-spec =
     tie.close (tie.spec
     (λ c κs. tt)
     (λ c κs. tt)

@@ -18,7 +18,7 @@ use Rattle.rules.specs.Refusals.{all, isMode, outOfRange, table, refusal
 use Rattle.rules.specs.WhatComesBack.{typed, typeCall, typeOr, typeAll, show, Written, verdictAnswer, placeAnswer, decisionAnswer}
 use Rattle.rules.specs.declared.Word.{Word}
 use Rattle.rules.specs.declared.Refusal.{Refusal}
-use Rattle.rules.specs.declared.TypeAnswer.the-variants.{Typed as AllTyped}
+use Rattle.rules.specs.declared.TypeAnswer.the-variants.{AllTyped}
 use Rattle.rules.specs.declared.TypeAnswer.the-variants.{Refused as TypeRefused}
 use Rattle.rules.specs.declared.WriteAnswer.{WriteAnswer}
 use Rattle.rules.specs.declared.WriteAnswer.the-variants.{Wrote}

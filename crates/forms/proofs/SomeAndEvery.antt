@@ -1,10 +1,9 @@
 -- Tests over a list: where some of it passes one test and every one of it another, one passes both.
-use mathlib.Core.Path.{_≡_, refl}
-use mathlib.Core.Bool.{Bool, true, false, not, _&&_}
+use mathlib.Core.Bool.{Bool, true, false, _&&_}
 use mathlib.Core.List.{List, [], _∷_}
 use lib.Dec.{T}
 use lib.Ieee.Fits.{and-l, and-r}
-use Rattle.rules.specs.Letters.{Letters, some}
+use Rattle.rules.specs.Letters.{Letters, someWord}
 use Rattle.rules.specs.TakingApart.{Row, someRow}
 use Rattle.forms.specs.Forms.{every}
 
@@ -26,23 +25,23 @@ pub or-later : (b c : Bool) → T c → T (elim b [ true ↦ true | false ↦ c 
 or-later true c t = tt
 or-later false c t = t
 
-some-so : (f g : Letters → Bool) (zs : List Letters) → ((z : Letters) → T (f z) → T (g z)) → T (some f zs) → T (some g zs)
+some-so : (f g : Letters → Bool) (zs : List Letters) → ((z : Letters) → T (f z) → T (g z)) → T (someWord f zs) → T (someWord g zs)
 some-so f g [] h t = t
-some-so f g (z ∷ zs) h t = either (f z) (some f zs) (λ u. or-so (g z) (some g zs) (h z u)) (λ u. or-later (g z) (some g zs) (some-so f g zs h u)) t
+some-so f g (z ∷ zs) h t = either (f z) (someWord f zs) (λ u. or-so (g z) (someWord g zs) (h z u)) (λ u. or-later (g z) (someWord g zs) (some-so f g zs h u)) t
 
 pub some-row-so : (f g : Row → Letters → Bool) (rs : List Row) → ((r : Row) (z : Letters) → T (f r z) → T (g r z)) → T (someRow f rs) → T (someRow g rs)
 some-row-so f g [] h t = t
 some-row-so f g (r ∷ rs) h t =
-    either (some (f r) (r .nuclei)) (someRow f rs) (λ u. or-so (some (g r) (r .nuclei)) (someRow g rs) (some-so (f r) (g r) (r .nuclei) (h r) u))
-    (λ u. or-later (some (g r) (r .nuclei)) (someRow g rs) (some-row-so f g rs h u)) t
+    either (someWord (f r) (r .nuclei)) (someRow f rs) (λ u. or-so (someWord (g r) (r .nuclei)) (someRow g rs) (some-so (f r) (g r) (r .nuclei) (h r) u))
+    (λ u. or-later (someWord (g r) (r .nuclei)) (someRow g rs) (some-row-so f g rs h u)) t
 
 pub record Met (f g : Letters → Bool) : Type 0 where
   pub here : Letters
   pub one : T (f here)
   pub other : T (g here)
 
-pub meet : (f g : Letters → Bool) (zs : List Letters) → T (some f zs) → T (every g zs) → Met f g
-meet f g (z ∷ zs) t u = either (f z) (some f zs) (λ h. record { here = z; one = h; other = and-l (g z) (every g zs) u }) (λ h. meet f g zs h (and-r (g z) (every g zs) u)) t
+pub meet : (f g : Letters → Bool) (zs : List Letters) → T (someWord f zs) → T (every g zs) → Met f g
+meet f g (z ∷ zs) t u = either (f z) (someWord f zs) (λ h. record { here = z; one = h; other = and-l (g z) (every g zs) u }) (λ h. meet f g zs h (and-r (g z) (every g zs) u)) t
 
 -- the nuclei of the rows
 abbrev pub everyRow : (Letters → Bool) → List Row → Bool
@@ -57,6 +56,6 @@ pub record MetRow (f : Row → Letters → Bool) (g : Letters → Bool) : Type 0
 
 pub meetRow : (f : Row → Letters → Bool) (g : Letters → Bool) (rs : List Row) → T (someRow f rs) → T (everyRow g rs) → MetRow f g
 meetRow f g (r ∷ rs) t u =
-    either (some (f r) (r .nuclei)) (someRow f rs)
+    either (someWord (f r) (r .nuclei)) (someRow f rs)
     (λ h. let p = meet (f r) g (r .nuclei) h (and-l (every g (r .nuclei)) (everyRow g rs) u) in record { row = r; here = p .here; one = p .one; other = p .other })
     (λ h. meetRow f g rs h (and-r (every g (r .nuclei)) (everyRow g rs) u)) t

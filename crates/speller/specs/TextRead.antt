@@ -13,7 +13,7 @@ use Rattle.rules.specs.declared.Place.{Place}
 use Rattle.rules.specs.declared.Place.the-variants.{At, Nowhere}
 use Rattle.rules.specs.declared.WriteAnswer.{WriteAnswer}
 use Rattle.rules.specs.declared.WriteAnswer.the-variants.{Refused}
-use Rattle.speller.specs.declared.Reading.{Reading}
+use Rattle.speller.specs.declared.ReadSoFar.{ReadSoFar}
 
 -- the place of the first letter that carries a tone
 abbrev pub oneOn : Place → Place
@@ -31,7 +31,7 @@ samePlace Nowhere (At n) = false
 samePlace Nowhere Nowhere = true
 
 -- the reading after these letters, so many bytes into the text
-abbrev pub readingOf : ℕ → List Sign → Reading
+abbrev pub readingOf : ℕ → List Sign → ReadSoFar
 readingOf at ss = record { at = at; count = length ss; tone = toneIn ss; place = placeIn ss; twice = twoTones (tonesIn ss) }
 
 -- letters that have a capital 32 below them
@@ -40,7 +40,7 @@ haveCapitals [] = true
 haveCapitals (x ∷ xs) = ltb 31 (x .base) && haveCapitals xs
 
 -- a text read so far into an array of letters' numbers,
-pub record SoFar (text ns : List ℕ) (r : Reading) : Type 0 where
+pub record SoFar (text ns : List ℕ) (r : ReadSoFar) : Type 0 where
   pub signs : List Sign
   pub held : r ≡ readingOf (r .at) signs
   pub letters : map letter (take (r .count) ns) ≡ lettersIn signs
@@ -49,7 +49,7 @@ pub record SoFar (text ns : List ℕ) (r : Reading) : Type 0 where
   pub within : r .at ≤ length text
 
 -- to its end, or to a byte where no letter starts
-pub record ReadInto (text ns : List ℕ) (r : Reading) : Type 0 where
+pub record ReadInto (text ns : List ℕ) (r : ReadSoFar) : Type 0 where
   pub so-far : SoFar text ns r
   pub stuck : r .at < length text → read text ≡ stuckAt (r .at)
   pub whole : length text ≤ r .at → read text ≡ reading (so-far .signs)

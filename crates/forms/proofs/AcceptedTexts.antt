@@ -14,15 +14,15 @@ use Rattle.rules.specs.Refusals.{isMode, isStuck, faultOf}
 use Rattle.rules.specs.WhatComesBack.{spell}
 use Rattle.rules.specs.declared.WriteAnswer.the-variants.{Wrote}
 use Rattle.forms.specs.Syllables.{Syllable, openWord}
-use Rattle.forms.specs.Spelling.{Accepted, ShownBySyllable, written, Writes}
+use Rattle.forms.specs.Spelling.{AcceptedText, ShownBySyllable, writtenKeys, Writes}
 use Rattle.forms.proofs.StandardList.{standard-list}
 use Rattle.forms.proofs.RoundTrip.{round-trip}
-use Rattle.forms.proofs.Reading.{was-read}
+use Rattle.forms.proofs.ReadBack.{was-read}
 use Rattle.forms.proofs.Faults.{only-syllables}
 use Rattle.forms.proofs.Spells.{short-text, written-accepts, accepts-written}
 
 -- A text that is read, with no fault in what is read, is the text of a valid syllable, and what is read is that syllable as shown.
-pub only-shown : (text : List ℕ) (ss : List Sign) → read text ≡ reading ss → fault ss ≡ 0 → Accepted text ss
+pub only-shown : (text : List ℕ) (ss : List Sign) → read text ≡ reading ss → fault ss ≡ 0 → AcceptedText text ss
 only-shown text ss e h =
     let r = was-read text ss e in
     let k = only-syllables ss (r .known) h in
@@ -30,7 +30,7 @@ only-shown text ss e h =
 
 -- Each shown text of a valid syllable is spelled, where the output has room for its keys: the output holds the standard list at its front, and the rest is unchanged.
 pub shown-spelled : (m : ℕ) → T (isMode m) → (w : Letters) (t : ℕ) → Syllable w t → (out : List ℕ) → length (standardKeys m w t) ≤ length out →
-    spell m (shown (openWord w t)) out ≡ written (standardKeys m w t) out
+    spell m (shown (openWord w t)) out ≡ writtenKeys (standardKeys m w t) out
 shown-spelled m mode w t s out room =
     let b = round-trip m mode w t s in
     let text = shown (openWord w t) in
@@ -41,7 +41,7 @@ shown-spelled m mode w t s out room =
       not-stuck = subst (λ (r : Reading). T (not (isStuck r))) (sym (b .read-as)) tt;
       faultless = ap faultOf (b .read-as) ∙ b .faultless;
       room = subst (λ (ks : List ℕ). length ks ≤ length out) (sym (b .keys)) room;
-    }) ∙ ap (λ (ks : List ℕ). written ks out) (b .keys)
+    }) ∙ ap (λ (ks : List ℕ). writtenKeys ks out) (b .keys)
 
 -- And whatever is spelled, in whatever mode and output, is the shown text of a valid syllable.
 shown-by : (text : List ℕ) (r : Reading) → read text ≡ r → T (not (isStuck r)) → faultOf r ≡ 0 → ShownBySyllable text

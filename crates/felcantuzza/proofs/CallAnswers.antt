@@ -29,8 +29,8 @@ use Rattle.rules.specs.declared.PlaceAnswer.{PlaceAnswer}
 use Rattle.rules.specs.declared.VerdictAnswer.{VerdictAnswer}
 use Rattle.rules.specs.declared.DecisionAnswer.{DecisionAnswer}
 use Rattle.rules.proofs.Refused.{refused-show}
-use Rattle.layout.specs.Places.{asRecord, written}
-use Rattle.layout.specs.declared.Reading.{Reading}
+use Rattle.layout.specs.Places.{asRecord, recordWritten}
+use Rattle.layout.specs.declared.RecordRead.{RecordRead}
 use Rattle.press.specs.StepAndShow.{showOr, stepOr, stepAndShow}
 use Rattle.press.specs.declared.StepShown.{StepShown}
 use Rattle.press.specs.declared.ShownAnswer.{ShownAnswer}
@@ -71,13 +71,13 @@ module _ (mode : ℕ) (lent : List ℕ) where
   started h s a p q = ap₂ (λ (b : Bool) (x : StartAnswer). ofRecord b (startSays x)) (eq-eqb (length lent) 104 h) (sym (ap (λ (x : Start). x .answer) p) ∙ q)
 
 -- calls on a record that is read from the lent bytes
-module _ (lent : List ℕ) (r : Reading) (e : r ≡ asRecord lent) where
+module _ (lent : List ℕ) (r : RecordRead) (e : r ≡ asRecord lent) where
   none-said : {A : Type 0} (says : A → Says) (f : Word → A) → r .is_record ≡ false → ofRecord (asRecord lent .is_record) (says (f (asRecord lent .word))) ≡ refused 8 0
-  none-said says f n = ap (λ (b : Bool). ofRecord b (says (f (asRecord lent .word)))) (sym (ap (λ (x : Reading). x .is_record) e) ∙ n)
+  none-said says f n = ap (λ (b : Bool). ofRecord b (says (f (asRecord lent .word)))) (sym (ap (λ (x : RecordRead). x .is_record) e) ∙ n)
 
   said : {A : Type 0} (says : A → Says) (f : Word → A) → r .is_record ≡ true → (a x : A) → a ≡ f (r .word) → a ≡ x → ofRecord (asRecord lent .is_record) (says (f (asRecord lent .word))) ≡ says x
   said says f t a x p q =
-      ap (λ (y : Reading). ofRecord (y .is_record) (says (f (y .word)))) (sym e) ∙ ap (λ (b : Bool). ofRecord b (says (f (r .word)))) t ∙ ap says (sym p ∙ q)
+      ap (λ (y : RecordRead). ofRecord (y .is_record) (says (f (y .word)))) (sym e) ∙ ap (λ (b : Bool). ofRecord b (says (f (r .word)))) t ∙ ap says (sym p ∙ q)
 
   module _ (key : ℕ) where
     abbrev stepped : Word → StepAnswer
@@ -92,8 +92,8 @@ module _ (lent : List ℕ) (r : Reading) (e : r ≡ asRecord lent) where
       unfolding Calls.type
       typed t a q = said stepSays stepped t (s .answer) a (ap (λ (x : Step). x .answer) p) q
 
-      pub typed-word : written (s .word) lent ≡ written (Rules.step (asRecord lent .word) key .word) lent
-      typed-word = ap (λ (x : Step). written (x .word) lent) (p ∙ ap (λ (y : Reading). Rules.step (y .word) key) e)
+      pub typed-word : recordWritten (s .word) lent ≡ recordWritten (Rules.step (asRecord lent .word) key .word) lent
+      typed-word = ap (λ (x : Step). recordWritten (x .word) lent) (p ∙ ap (λ (y : RecordRead). Rules.step (y .word) key) e)
 
   module _ (key : ℕ) (out : List ℕ) where
     abbrev both : Word → ShownAnswer
@@ -108,11 +108,11 @@ module _ (lent : List ℕ) (r : Reading) (e : r ≡ asRecord lent) where
       unfolding Calls.typeAndShow
       typed-shown t a q = said shownSays both t (s .answer) a (ap (λ (x : StepShown). x .answer) p) q
 
-      pub typed-shown-word : written (s .word) lent ≡ written (stepAndShow (asRecord lent .word) key out .result .word) lent
-      typed-shown-word = ap (λ (x : StepShown). written (x .word) lent) (p ∙ ap (λ (y : Reading). stepAndShow (y .word) key out .result) e)
+      pub typed-shown-word : recordWritten (s .word) lent ≡ recordWritten (stepAndShow (asRecord lent .word) key out .result .word) lent
+      typed-shown-word = ap (λ (x : StepShown). recordWritten (x .word) lent) (p ∙ ap (λ (y : RecordRead). stepAndShow (y .word) key out .result) e)
 
     pub typed-shown-output : stepAndShow (r .word) key out .output ≡ stepAndShow (asRecord lent .word) key out .output
-    typed-shown-output = ap (λ (y : Reading). stepAndShow (y .word) key out .output) e
+    typed-shown-output = ap (λ (y : RecordRead). stepAndShow (y .word) key out .output) e
 
   module _ (out : List ℕ) where
     abbrev shows : Word → WriteAnswer
@@ -127,7 +127,7 @@ module _ (lent : List ℕ) (r : Reading) (e : r ≡ asRecord lent) where
     shown t a x p q = said writeSays shows t a x p q
 
     pub shown-output : Rules.show (r .word) out .output ≡ Rules.show (asRecord lent .word) out .output
-    shown-output = ap (λ (y : Reading). Rules.show (y .word) out .output) e
+    shown-output = ap (λ (y : RecordRead). Rules.show (y .word) out .output) e
 
   pub none-judged : r .is_record ≡ false → Calls.verdict lent ≡ refused 8 0
   unfolding Calls.verdict

@@ -25,10 +25,10 @@ use Rattle.rules.proofs.Commute.{by-tone, Differ, tone-shape, tone-stroke, shap
 use Rattle.rules.proofs.Typing.{of-modes}
 use Rattle.forms.specs.Forms.{capitals}
 use Rattle.forms.specs.Syllables.{openWord}
-use Rattle.forms.proofs.Courses.{editBy}
+use Rattle.forms.proofs.KeyCourses.{editBy}
 use Rattle.forms.proofs.Tests.{isChange, isNothing, changesTo, apart, alone, freshIs, leads, lastStep, chain}
 use Rattle.forms.proofs.Capitals.{same-capitals, left-good, left}
-use Rattle.forms.proofs.Walks.{acts-edit, changed}
+use Rattle.forms.proofs.CoursesTyped.{acts-edit, changed}
 use Rattle.forms.proofs.Runs.{Each, none, also, Apart, no-more, and-from, Can, can, Runs, stop, then}
 
 -- the role of the tone key, if the tone has one

@@ -6,16 +6,13 @@ use Prim.Native.Nat.{ℕ, _+_, _≤_, _<_}
 use Prim.Native.Char.{code}
 use lib.ListN.{length, take, set}
 use Rattle.rules.specs.Letters.{Letter, small}
-use Rattle.rules.specs.TheWord.{State, Done, acted, undone, appended, stateOf, outcomeOf, oneMore, isActed, isUndone, isAppended, mostKeys, letter, number, atFront, wordOf, holding, counted}
-use Rattle.rules.proofs.Numbers.{AllFine}
+use Rattle.rules.specs.TheWord.{State, Done, acted, undone, appended, stateOf, outcomeOf, oneMore, isActed, isUndone, isAppended, mostKeys, letter, number, atFront}
 use Rattle.rules.specs.KeyRoles as Rules
 use Rattle.rules.specs.KeyRoles.{append, undo, nothing, off, change}
-use Rattle.rules.specs.declared.Word.{Word}
 use Rattle.rules.specs.declared.Role.{Role}
 use Rattle.rules.specs.declared.Role.the-variants.{NoRole}
 use Rattle.rules.specs.declared.Outcome.{Outcome}
-use Rattle.rules.specs.declared.Step.{Step}
-use Rattle.rules.specs.declared.StepAnswer.the-variants.{Did, Refused}
+use Rattle.rules.specs.declared.StepAnswer.the-variants.{Refused}
 use Rattle.records.specs.declared.Numbers.{Numbers}
 use Rattle.step.specs.declared.StepIn.{StepIn}
 use Rattle.step.specs.declared.Edit.{Edit}
@@ -29,28 +26,21 @@ abbrev pub Canonical : List ℕ → Type 0
 Canonical ns = map number (map letter ns) ≡ ns
 
 -- an array whose first numbers are letters
-pub record Given (l : List ℕ) (count : ℕ) : Type 0 where
+pub record LettersInFront (l : List ℕ) (count : ℕ) : Type 0 where
   pub whole : length l ≡ mostKeys
   pub fits : count ≤ mostKeys
   pub canonical : Canonical (take count l)
 
 -- a place among the first letters of an array, and a shape that a number has room for
-pub record Aimed (l : List ℕ) (count i kind : ℕ) : Type 0 where
-  pub given : Given l count
+pub record LetterThere (l : List ℕ) (count i kind : ℕ) : Type 0 where
+  pub given : LettersInFront l count
   pub inside : i < count
   pub shape : kind < 8
 
 -- an array with room for a letter more
-pub record Room (l : List ℕ) (count : ℕ) : Type 0 where
-  pub given : Given l count
+pub record RoomForLetter (l : List ℕ) (count : ℕ) : Type 0 where
+  pub given : LettersInFront l count
   pub room : count < mostKeys
-
--- a record with room for a key, whose letters are letters of its mode
-pub record Ready (w : Word) : Type 0 where
-  pub room : w .typed < mostKeys
-  pub fewer : w .count ≤ w .typed
-  pub canonical : Canonical (take (w .count) (w .letters))
-  pub fine : AllFine (w .mode) (wordOf w .state .letters)
 
 -- a letter and the next, stored
 abbrev pub paired : List ℕ → ℕ → ℕ → ℕ → List ℕ
@@ -85,11 +75,11 @@ restOf s = record { count = length (s .letters); tone = s .tone; closed = s .clo
 abbrev pub lettersIn : List ℕ → State → List ℕ
 lettersIn l s = atFront (map number (s .letters)) l
 
-pub record Leaves (s : State) (old : List ℕ) (r : Rest) (new : List ℕ) : Type 0 where
+pub record LeavesState (s : State) (old : List ℕ) (r : Rest) (new : List ℕ) : Type 0 where
   pub beside : r ≡ restOf s
   pub left : new ≡ lettersIn old s
 
-pub record Does (d : Done) (old : List ℕ) (r : Answer.Done) (new : List ℕ) : Type 0 where
+pub record DoesAsRuled (d : Done) (old : List ℕ) (r : Answer.Done) (new : List ℕ) : Type 0 where
   pub told : r ≡ record { outcome = outcomeOf d; rest = restOf (stateOf d) }
   pub left : new ≡ lettersIn old (stateOf d)
 
@@ -111,9 +101,6 @@ abbrev pub unlessClosedRole : Bool → Role → Role
 unlessClosedRole true r = NoRole
 unlessClosedRole false r = r
 
--- the step's answer where it is not refused, and where it is
-abbrev pub didOf : Word → ℕ → Done → Step
-didOf w k d = record { answer = Did (outcomeOf d); word = holding w (counted (wordOf w) k d) }
-
+-- the step's answer where it is refused
 abbrev pub refusedOf : Numbers → ℕ → ℕ → StepIn
 refusedOf n number value = record { answer = Refused (record { number = number; value = value }); numbers = n }

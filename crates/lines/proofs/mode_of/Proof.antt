@@ -1,11 +1,11 @@
--- `lines::start_of` meets its contract: each answer by its tests.
+-- `lines::mode_of` meets its contract: each answer by its tests.
 use borrow.Author.Needs.{needs}
 use Rattle.lines.proofs.Starts.{too-short, no-space, is-telex, is-vni, other-start}
-use Rattle.lines.proofs.start_of.Statement.{statement}
-use Rattle.lines.proofs.start_of.Tie as tie
+use Rattle.lines.proofs.mode_of.Statement.{statement}
+use Rattle.lines.proofs.mode_of.Tie as tie
 
-pub start-of-spec : {M : Type 1} → statement M
-start-of-spec =
+pub mode-of-spec : {M : Type 1} → statement M
+mode-of-spec =
     tie.close
     (tie.spec
     (λ c. too-short (c .before .args .line .now) (c .if1 .taken))

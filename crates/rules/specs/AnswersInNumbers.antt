@@ -1,4 +1,4 @@
--- Each answer in document 01's numbers: a refusal's number with the number returned, or the values that the answer holds.
+-- 3 Answers in numbers (docs/RULES.md): each answer as a refusal with the number returned, or as the values that it holds.
 use mathlib.Core.List.{List, [], _∷_}
 use Prim.Native.Nat.{ℕ}
 use Rattle.rules.specs.declared.Act.the-variants.{Tone, Shape, Stroke, Clear}
@@ -34,6 +34,8 @@ use Rattle.rules.specs.declared.CommitAnswer.{CommitAnswer}
 use Rattle.rules.specs.declared.CommitAnswer.the-variants.{Granted}
 use Rattle.rules.specs.declared.CommitAnswer.the-variants.{Refused as CommitRefused}
 
+-- 3.1 In numbers an answer is one of two things: a refusal, with its number and the number returned, or a list of
+-- values.
 pub data Says : Type 0 where
   refused : ℕ → ℕ → Says
   answered : List ℕ → Says
@@ -41,7 +43,7 @@ pub data Says : Type 0 where
 abbrev pub refusing : Refusal → Says
 refusing r = refused (r .number) (r .value)
 
--- act (tone with its number, shape with its kind, stroke, or clear), undo, or be appended: 1 to 6 in this order
+-- 3.2 What a key did has a number from 1 to 6. Behind 1 stands the tone that was set, behind 2 the shape.
 abbrev pub outcomeNumbers : Outcome → List ℕ
 outcomeNumbers (Acted (Tone t)) = 1 ∷ t ∷ []
 outcomeNumbers (Acted (Shape sh)) = 2 ∷ sh ∷ []
@@ -50,16 +52,17 @@ outcomeNumbers (Acted Clear) = 4 ∷ []
 outcomeNumbers Undone = 5 ∷ []
 outcomeNumbers Appended = 6 ∷ []
 
--- a place is its number; none has no number
+-- 3.3 A place is its own number; nowhere has no value.
 abbrev pub placeNumbers : Place → List ℕ
 placeNumbers (At n) = n ∷ []
 placeNumbers Nowhere = []
 
--- keep 0, restore 1
+-- 3.4 Keep is 0, restore is 1.
 abbrev pub decisionNumber : Decision → ℕ
 decisionNumber Keep = 0
 decisionNumber Restore = 1
 
+-- 3.5 Each entry answers with values of its own; a refusal reads the same for all.
 abbrev pub startSays : StartAnswer → Says
 startSays Started = answered []
 startSays (StartRefused r) = refusing r

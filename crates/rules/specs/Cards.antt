@@ -1,4 +1,4 @@
--- Document 01, "Drill cards": the starred cards in one list, each with everything that the document says of it; and lines of the programs with their answers.
+-- 14 Cards (docs/RULES.md): the cards that are proved, in one list, and lines of the programs with their answers.
 use mathlib.Core.Bool.{Bool, true, false, _&&_, Bool·beq}
 use mathlib.Core.List.{List, [], _∷_, _++_}
 use mathlib.Core.Option.{Option, none, some}
@@ -19,7 +19,8 @@ use Rattle.rules.specs.declared.Place.the-variants.{At, Nowhere}
 use Rattle.rules.specs.declared.Decision.{Decision}
 use Rattle.rules.specs.declared.Decision.the-variants.{Keep, Restore}
 
--- a card: what is typed, and what document 01 says of it (none where it says nothing)
+-- 14.1 A card has a mode, keys, the text that they show and what commit hands back, and as far as they are told the
+-- verdict, the tone, its place, the mark and the decision.
 pub record Card : Type 0 where
   pub mode : ℕ
   pub keys : String
@@ -71,6 +72,7 @@ everyCard (c ∷ cs) = holds c && everyCard cs
 abbrev pub card : String → String → Option ℕ → Option ℕ → Option Bool → Option Decision → Card
 card keys text v p m d = record { mode = telex; keys = keys; text = text; back = text; verdictIs = v; toneIs = none; placeIs = p; closedIs = m; decisionIs = d }
 
+-- 14.2 The cards that are proved stand in one list.
 abbrev pub starred : List Card
 starred =
     card "" "" (some 1) none none (some Keep) ∷
@@ -89,7 +91,8 @@ starred =
     record { mode = vni; keys = "d9uong72"; text = "đường"; back = "đường"; verdictIs = none; toneIs = none; placeIs = some 2; closedIs = none; decisionIs = none } ∷
     []
 
--- Drill lines and their answers: the whole case of "Drill program", and what is refused first where two refusals could be given.
+-- 14.3 Lines of the drill that are proved with their answers: the worked case, and what is refused first where two
+-- refusals hold.
 pub record Line : Type 0 where
   pub line : String
   pub answer : String
@@ -113,7 +116,7 @@ lines =
     answers "T tomorrow" "tômrow tômrow 3 0 - K" ∷
     []
 
--- The whole case of "Drill program", header included.
+-- 14.4 The worked case as one input and one output, the line of names in front.
 abbrev inLines : List String → List ℕ
 inLines [] = []
 inLines (l ∷ ls) = utf8Of (characters l) ++ (newline ∷ inLines ls)
@@ -124,7 +127,7 @@ workedInput = inLines ("T vieejt" ∷ "T text" ∷ "V a11" ∷ "T a1" ∷ [])
 abbrev pub workedAnswers : List ℕ
 workedAnswers = inLines ("shown commit verdict tone place decision" ∷ "việt việt 0 5 2 K" ∷ "tẽt text 7 4 1 R" ∷ "a1 a1 5 0 - K" ∷ "! 3 1" ∷ [])
 
--- Lines of the speller as a program.
+-- 14.5 Lines of the speller that are proved with their answers.
 abbrev pub spellLines : List Line
 spellLines =
     answers "T việt" "vieetj" ∷

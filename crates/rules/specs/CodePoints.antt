@@ -1,4 +1,4 @@
--- Document 01, "Code points": the letters of the alphabet as shown, their UTF-8 bytes, and the text that a word shows.
+-- 10 Code points and the shown text (docs/RULES.md): the letters of the alphabet, their UTF-8 bytes, and the text that a word shows.
 use mathlib.Core.Bool.{Bool, true, false}
 use mathlib.Core.List.{List, [], _∷_, _++_}
 use Prim.Native.Nat.{ℕ, zero, suc, _+_, _-_, _/_, _%_}
@@ -11,7 +11,7 @@ use Rattle.rules.specs.TheWord.{State}
 use Rattle.rules.specs.declared.Place.{Place}
 use Rattle.rules.specs.declared.Place.the-variants.{At, Nowhere}
 
--- Tones 0 to 5, hexadecimal.
+-- 10.1 Twelve vowels, each a base in a shape, have a code point for each of the six tones.
 pub record Vowel : Type 0 where
   pub letter : Letter
   pub points : List ℕ
@@ -34,7 +34,7 @@ vowels =
     vowelOf (code "ư") (0x1B0 ∷ 0x1EE9 ∷ 0x1EEB ∷ 0x1EED ∷ 0x1EEF ∷ 0x1EF1 ∷ []) ∷
     vowelOf (code "y") (0x79 ∷ 0xFD ∷ 0x1EF3 ∷ 0x1EF7 ∷ 0x1EF9 ∷ 0x1EF5 ∷ []) ∷ []
 
--- a letter as shown: the letter, and the tone on it
+-- 10.2 A letter as shown is a letter and the tone on it.
 pub record Sign : Type 0 where
   pub letter : Letter
   pub tone : ℕ
@@ -42,12 +42,14 @@ pub record Sign : Type 0 where
 abbrev pub sign : Letter → ℕ → Sign
 sign x t = record { letter = x; tone = t }
 
--- đ 111; every other letter and digit is its own byte
+-- 10.3 The code point of đ is 111 hexadecimal. Every other letter that has no row in the table, and every digit, is
+-- its own byte.
 abbrev pub smallPoint : List Vowel → Letter → ℕ → ℕ
 smallPoint [] x t = elim (is x (named (code "đ"))) [ true ↦ 0x111 | false ↦ x .base ]
 smallPoint (v ∷ vs) x t = elim (is x (v .letter)) [ true ↦ getD (v .points) t 0 | false ↦ smallPoint vs x t ]
 
--- The capital is 32 less below 100 hex, else 1 less.
+-- 10.4 A capital's code point is that of the small letter less 32 where that is below 100 hexadecimal, and less 1
+-- from there on.
 abbrev pub capitalPoint : ℕ → ℕ
 capitalPoint c = elim (ltb c 0x100) [ true ↦ c - 32 | false ↦ c - 1 ]
 
@@ -58,7 +60,7 @@ inCase false c = c
 abbrev pub point : Sign → ℕ
 point s = inCase (s .letter .capital) (smallPoint vowels (s .letter) (s .tone))
 
--- UTF-8 of a code point below 10000 hex
+-- 10.5 A code point below 10000 hexadecimal is written in UTF-8 as one, two or three bytes.
 abbrev pub utf8 : ℕ → List ℕ
 utf8 c =
     elim (ltb c 0x80) [
@@ -69,7 +71,7 @@ utf8 c =
       ]
     ]
 
--- the bytes of a quoted text, and of letters as shown
+-- 10.6 The bytes of a text are those of its characters, one after the other; so are those of letters as shown.
 abbrev pub utf8Of : List ℕ → List ℕ
 utf8Of [] = []
 utf8Of (c ∷ cs) = utf8 c ++ utf8Of cs
@@ -78,7 +80,8 @@ abbrev pub bytes : List Sign → List ℕ
 bytes [] = []
 bytes (s ∷ ss) = utf8 (point s) ++ bytes ss
 
--- The word's letters with its tone on the letter at its place.
+-- 10.7 A word shows its letters in their order and case, the one at the tone's place with the tone and all others
+-- without.
 abbrev pub withoutTone : Letters → List Sign
 withoutTone [] = []
 withoutTone (x ∷ xs) = sign x noTone ∷ withoutTone xs
@@ -98,7 +101,8 @@ signs w t = signsAt (tonePlace w t) t w
 abbrev pub shown : State → List ℕ
 shown s = bytes (signs (s .letters) (s .tone))
 
--- The alphabet is ASCII letters and the letters above: the twelve vowels in six tones, đ, and the plain consonants, in both cases.
+-- 10.8 The alphabet is the twelve vowels with each tone, đ, and the twenty plain consonants of ASCII, all of them
+-- small and capital.
 abbrev bothCases : Letter → ℕ → List Sign → List Sign
 bothCases x t ss = sign x t ∷ sign (record { base = x .base; shape = x .shape; capital = true }) t ∷ ss
 

@@ -1,4 +1,4 @@
--- Document 01, "Drill program": one line and its answer, and a whole run.
+-- 12 Drill lines (docs/RULES.md): one line and its answer, and a whole run.
 use mathlib.Core.Bool.{Bool, true, false}
 use mathlib.Core.List.{List, [], _∷_, _++_}
 use mathlib.Core.Option.{Option, none, some}
@@ -20,17 +20,18 @@ use Rattle.rules.specs.declared.Place.the-variants.{At, Nowhere}
 use Rattle.rules.specs.declared.Decision.{Decision}
 use Rattle.rules.specs.declared.Decision.the-variants.{Keep, Restore}
 
+-- 12.1 The answers of a run begin with a line of the columns' names: shown commit verdict tone place decision.
 abbrev pub newline : ℕ
 newline = 10
 
 abbrev pub header : List ℕ
 header = characters "shown commit verdict tone place decision" ++ (newline ∷ [])
 
--- a number below 100 in decimal
+-- 12.2 A number is written in decimal.
 abbrev pub decimal : ℕ → List ℕ
 decimal n = elim (ltb n 10) [ true ↦ (code "0" + n) ∷ [] | false ↦ (code "0" + n / 10) ∷ (code "0" + n % 10) ∷ [] ]
 
--- Empty text is written as a hyphen.
+-- 12.3 A hyphen stands for a text that is empty and for a tone that stands nowhere. K stands for keep, R for restore.
 abbrev pub orHyphen : List ℕ → List ℕ
 orHyphen [] = code "-" ∷ []
 orHyphen (b ∷ bs) = b ∷ bs
@@ -43,13 +44,14 @@ abbrev pub decisionColumn : Decision → List ℕ
 decisionColumn Keep = code "K" ∷ []
 decisionColumn Restore = code "R" ∷ []
 
--- columns with a space between each two, and a newline
+-- 12.4 Between two columns stands one space, and a newline ends the line.
 abbrev pub columns : List (List ℕ) → List ℕ
 columns [] = newline ∷ []
 columns (c ∷ []) = c ++ (newline ∷ [])
 columns (c ∷ d ∷ ds) = c ++ (code " " ∷ columns (d ∷ ds))
 
--- shown commit verdict tone place decision
+-- 12.5 The answer to a typed word has six columns: the shown text, what commit hands back, the verdict, the tone, its
+-- place, the decision.
 abbrev pub wordLine : Typed → List ℕ
 wordLine z =
     columns
@@ -60,9 +62,11 @@ wordLine z =
     placeColumn (tonePlace (z .state .letters) (z .state .tone)) ∷
     decisionColumn (decision z) ∷ [])
 
+-- 12.6 The answer to a refused line is an exclamation mark, the refusal's number and the number returned.
 abbrev pub refusedLine : Refusal → List ℕ
 refusedLine r = columns ((code "!" ∷ []) ∷ decimal (r .number) ∷ decimal (r .value) ∷ [])
 
+-- 12.7 The keys of a line are typed as a list, and its answer is that of the word, or of the refusal.
 abbrev pub lineOr : Option Refusal → ℕ → List ℕ → List ℕ
 lineOr none m ks = wordLine (typed m ks)
 lineOr (some r) m ks = refusedLine r
@@ -70,8 +74,8 @@ lineOr (some r) m ks = refusedLine r
 abbrev pub keysLine : ℕ → List ℕ → List ℕ
 keysLine m ks = lineOr (refusal (typeCall m ks)) m ks
 
--- A line is T or V, a space, keys; any other start is refusal 1: it names no mode, and a number that no mode has stands for it.
--- (What stands for the keys, and what is answered to it, is each program's own. A byte that is not there counts as 0.)
+-- 12.8 A line is T for Telex or V for VNI, a space, and the keys, up to its end. A line that starts otherwise names
+-- no mode: a number that no mode has stands for it, which is refusal 1.
 abbrev pub noMode : ℕ
 noMode = 2
 
@@ -90,15 +94,17 @@ lineBy answer line = answer (modeOf line) (drop 2 line)
 unfoldable pub answerLine : List ℕ → List ℕ
 answerLine line = lineBy keysLine line
 
--- Input lines end in a newline; a last line without one counts if not empty. What is not yet ended stands in front.
+-- 12.9 A newline ends a line of the input. What comes after the last newline is a line too, unless it is empty.
 abbrev pub lastLine : List ℕ → List (List ℕ)
 lastLine [] = []
 lastLine (b ∷ bs) = (b ∷ bs) ∷ []
 
+-- the line that has begun, and the bytes behind it
 abbrev pub linesFrom : List ℕ → List ℕ → List (List ℕ)
 linesFrom line [] = lastLine line
 linesFrom line (b ∷ bs) = elim (eqb b newline) [ true ↦ line ∷ linesFrom [] bs | false ↦ linesFrom (line ++ (b ∷ [])) bs ]
 
+-- 12.10 The drill answers with the line of names, and then with the answer to each line, one after the other.
 abbrev pub answers : (List ℕ → List ℕ) → List (List ℕ) → List ℕ
 answers answer [] = []
 answers answer (l ∷ ls) = answer l ++ answers answer ls

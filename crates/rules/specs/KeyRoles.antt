@@ -1,4 +1,4 @@
--- Document 01, "Key roles (upper case acts as lower)" and "Rules for one key".
+-- 6 What a key does (docs/RULES.md): the keys and their roles in both modes, and the rules for one key.
 use mathlib.Core.Bool.{Bool, true, false, not, _&&_, _||_}
 use mathlib.Core.List.{List, [], _∷_, _++_}
 use Prim.Native.Nat.{ℕ, _+_}
@@ -16,7 +16,7 @@ use Rattle.rules.specs.declared.ShapeKey.the-variants.{CircumflexOn, Cir
 use Rattle.rules.specs.declared.Act.{Act}
 use Rattle.rules.specs.declared.Act.the-variants.{Tone, Shape, Stroke, Clear}
 
--- Upper case acts as lower; a key appended is a plain letter in its own case.
+-- 6.1 A capital key has the role of its small letter. Appended, it is a plain letter in its own case.
 abbrev pub isCapital : ℕ → Bool
 isCapital k = leb (code "A") k && leb k (code "Z")
 
@@ -30,7 +30,7 @@ lower k = lowerIf (isCapital k) k
 abbrev pub letterOfKey : ℕ → Letter
 letterOfKey k = record { base = lower k; shape = plain; capital = isCapital k }
 
--- Keys: a letter A-Z, a-z, in VNI also 0-9.
+-- 6.2 The keys are the letters A to Z and a to z, and in VNI the digits 0 to 9 too.
 abbrev pub isSmall : ℕ → Bool
 isSmall b = leb (code "a") b && leb b (code "z")
 
@@ -40,7 +40,7 @@ isDigit b = leb (code "0") b && leb b (code "9")
 abbrev pub isKey : ℕ → ℕ → Bool
 isKey mode k = isSmall k || (isCapital k || (eqb mode vni && isDigit k))
 
--- The table of roles.
+-- 6.3 In each mode a key has the role that the table gives it, and other keys have none.
 abbrev pub roleIn : List (ℕ × Role) → ℕ → Role
 roleIn [] b = NoRole
 roleIn (x ∷ xs) b = elim (eqb b (x .0)) [ true ↦ x .1 | false ↦ roleIn xs b ]
@@ -66,11 +66,13 @@ vniRoles =
 abbrev pub role : ℕ → ℕ → Role
 role mode k = elim (eqb mode telex) [ true ↦ roleIn telexRoles (lower k) | false ↦ elim (eqb mode vni) [ true ↦ roleIn vniRoles (lower k) | false ↦ NoRole ] ]
 
--- Appending never alters earlier letters, shapes or the tone number.
+-- 6.6 An appended key is one more letter at the end. Letters and shapes before it and the number of the tone stay as
+-- they are.
 abbrev pub append : State → Letter → State
 append s k = record { letters = s .letters ++ (k ∷ []); tone = s .tone; closed = s .closed }
 
--- Undo takes the tone or shape off, appends the key as a plain letter and closes the word.
+-- 6.7 An undo takes off the tone or the shape that its key stands for. The key then becomes a plain letter at the
+-- end, and the word is closed.
 abbrev pub close : State → State
 close s = record { letters = s .letters; tone = s .tone; closed = true }
 
@@ -83,7 +85,8 @@ withTone s t = record { letters = s .letters; tone = t; closed = s .closed }
 abbrev pub undo : State → Letter → State
 undo s k = close (append s k)
 
--- Tone key: if that tone is already there, undo. Else it acts when the letters are admitted and the tone fits the final. Else appended.
+-- 6.8 A tone key undoes where the word has its tone. Else, where the letters are admitted and its tone fits their
+-- final, it sets the tone, in place of any other. Else it is appended.
 abbrev pub undoIf : Bool → State → Done → Done
 undoIf true s d = undone s
 undoIf false s d = d
@@ -97,14 +100,16 @@ toneGoes t w = admitted w && fits (final w) t
 
 abbrev pub toneDoes : ToneKey → State → Letter → Done
 toneDoes (SetTone t) s k = undoIf (eqb (s .tone) t) (undo (withTone s noTone) k) (actIf (toneGoes t (s .letters)) (Tone t) (withTone s t) (append s k))
--- Clear: tone becomes 0 if it wasn't; else appended.
+-- 6.9 A clear key acts where the tone is not 0, and makes it 0. Where it is 0 the key is appended.
 toneDoes ClearTone s k = actIf (not (eqb (s .tone) noTone)) Clear (withTone s noTone) (append s k)
 
--- a letter in another shape
+-- 6.10 A letter that is put into another shape keeps its base and its case.
 abbrev pub shaped : ℕ → Letter → Letter
 shaped sh x = record { base = x .base; shape = sh; capital = x .capital }
 
--- What the search for a target finds: no target; a target already so shaped, with the letters when the shape is off; the letters with the new shape.
+-- 6.11 A shape key looks for its target among all letters of the word, by their bases and in any shape. It finds
+-- none; or one that has the shape, with the letters once it is off; or another, with the letters once it is on, in
+-- place of an older shape.
 pub data Found : Type 0 where
   nowhere : Found
   already : Letters → Found
@@ -131,7 +136,7 @@ target false off on = fresh on
 abbrev pub here : ℕ → Letter → Letters → Found
 here sh x xs = target (eqb (x .shape) sh) (shaped plain x ∷ xs) (shaped sh x ∷ xs)
 
--- Circumflex: the target is the last letter with a wanted base. Breve: the last a.
+-- 6.12 A circumflex key aims at the last letter that it is for: in Telex the key's own letter, in VNI an a, e or o.
 abbrev pub last : (ℕ → Bool) → ℕ → Letters → Found
 last wanted sh [] = nowhere
 last wanted sh (x ∷ xs) = orElse (behind x (last wanted sh xs)) (ifSo (wanted (x .base)) (here sh x xs))
@@ -148,13 +153,15 @@ isAEO x = among x "aeo"
 abbrev pub circumflexed : Letters → Found
 circumflexed w = last isAEO circumflex w
 
+-- 6.13 A breve key aims at the last a.
 abbrev pub isA : ℕ → Bool
 isA x = among x "a"
 
 abbrev pub breved : Letters → Found
 breved w = last isA breve w
 
--- Horn: the first u followed directly by o, both together, the u not directly after q;
+-- 6.14 A horn key aims at a pair, the first u with an o directly after it and no q directly before it; the horn goes
+-- on both.
 abbrev pub isQ : Letter → Bool
 isQ x = eqb (x .base) (code "q")
 
@@ -171,7 +178,7 @@ abbrev pub pair : Bool → Letters → Found
 pair afterQ [] = nowhere
 pair afterQ (x ∷ xs) = orElse (pairHere afterQ x xs) (behind x (pair (isQ x) xs))
 
--- with no such pair, the first o or u not directly after q.
+-- 6.15 Without such a pair it aims at the first letter that is an o or a u and has no q directly before it.
 abbrev pub isSingle : Bool → ℕ → Bool
 isSingle afterQ b = among b "ou" && not afterQ
 
@@ -182,7 +189,9 @@ single afterQ (x ∷ xs) = orElse (ifSo (isSingle afterQ (x .base)) (here horn x
 abbrev pub horned : Letters → Found
 horned w = orElse (pair false w) (single false w)
 
--- No target: appended. Target already so shaped (both, for a pair): undo. Otherwise it acts when the letters with the new shape are admitted, replacing an older shape; else appended.
+-- 6.16 A shape key without a target is appended. One whose target has the shape undoes it; of a pair both letters
+-- must have it, and both lose it. Else it acts where all letters of the word, with the new shape on the whole target,
+-- are admitted. Where they are not it is appended.
 pub data Edit : Type 0 where
   nothing : Edit
   off : Letters → Edit
@@ -197,7 +206,8 @@ asked sh nowhere = nothing
 asked sh (already w) = off w
 asked sh (fresh w) = onlyIf (admitted w) (change (Shape sh) w)
 
--- Telex w tries in order: undo a horn; horn; undo a breve; breve; append.
+-- 6.17 Telex w does what the horn rule says, undo or act; where that would append it, what the breve rule says of the
+-- same letters; where that would too, it is appended.
 abbrev pub first : Edit → Edit → Edit
 first nothing e = e
 first (off w) e = off w
@@ -210,26 +220,29 @@ shapeEdit Breve w = asked breve (breved w)
 shapeEdit Horn w = asked horn (horned w)
 shapeEdit HornBreve w = first (asked horn (horned w)) (asked breve (breved w))
 
--- Stroke: if the first letter is đ, undo. If it is d, and it stands alone or the letters are admitted, it acts. Else appended.
+-- 6.18 A stroke key undoes where the first letter is đ, whatever follows it. Where it is d, the key puts the stroke
+-- on it if that is the only letter or the letters are admitted. Else it is appended.
 abbrev pub strokeEdit : Letters → Edit
 strokeEdit [] = nothing
 strokeEdit (x ∷ xs) =
     first (onlyIf (is x (named (code "đ"))) (off (shaped plain x ∷ xs)))
     (onlyIf (is x (named (code "d")) && (isNil xs || admitted (x ∷ xs))) (change Stroke (shaped stroke x ∷ xs)))
 
+-- 6.19 A shape or stroke key that takes a mark off is an undo, one that puts a mark on acts, and one that does
+-- neither is appended.
 abbrev pub editDoes : Edit → State → Letter → Done
 editDoes nothing s k = appended (append s k)
 editDoes (off w) s k = undone (undo (withLetters s w) k)
 editDoes (change a w) s k = acted a (withLetters s w)
 
--- No role: appended.
+-- 6.5 In an open word a key does what its role says; without a role it is appended.
 abbrev pub roleDoes : Role → State → Letter → Done
 roleDoes (ToneRole t) s k = toneDoes t s k
 roleDoes (ShapeRole h) s k = editDoes (shapeEdit h (s .letters)) s k
 roleDoes StrokeRole s k = editDoes (strokeEdit (s .letters)) s k
 roleDoes NoRole s k = appended (append s k)
 
--- Closed word: appended.
+-- 6.4 A key typed into a closed word is appended, whatever its role.
 abbrev pub unlessClosed : Bool → Role → State → Letter → Done
 unlessClosed true r s k = appended (append s k)
 unlessClosed false r s k = roleDoes r s k
@@ -237,7 +250,7 @@ unlessClosed false r s k = roleDoes r s k
 abbrev pub keyDoes : Typed → ℕ → Done
 keyDoes z k = unlessClosed (z .state .closed) (role (z .mode) k) (z .state) (letterOfKey k)
 
--- One key typed, and a list of keys one after the other.
+-- 6.20 Keys of a list are typed one after the other, each into the word that those before it made.
 abbrev pub type : Typed → ℕ → Typed
 type z k = counted z k (keyDoes z k)
 

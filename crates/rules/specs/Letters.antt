@@ -1,4 +1,4 @@
--- Letters, shapes, tones and modes by the names that document 01 gives them, and quoted words read as letters.
+-- 5 Letters, shapes, tones and modes (docs/RULES.md): each by its name, and quoted words read as letters.
 use mathlib.Core.Bool.{Bool, true, false, _&&_, _||_}
 use mathlib.Core.List.{List, [], _∷_, map}
 use Prim.Native.Nat.{ℕ}
@@ -7,7 +7,7 @@ use Prim.Native.String.{String}
 use Prim.Native.String as Quoted
 use lib.Dec.{eqb}
 
--- a letter: base letter or VNI digit (the byte of the lower-case letter, or of the digit), shape, case
+-- 5.1 A letter is a base, a shape and a case. The base is the byte of the small letter or, in VNI, of a digit.
 pub record Letter : Type 0 where
   pub base : ℕ
   pub shape : ℕ
@@ -16,7 +16,7 @@ pub record Letter : Type 0 where
 abbrev pub Letters : Type 0
 Letters = List Letter
 
--- shapes: plain, circumflex, breve, horn, stroke
+-- 5.2 Shapes: 0 plain, 1 circumflex, 2 breve, 3 horn, 4 stroke.
 abbrev pub plain : ℕ
 plain = 0
 
@@ -32,7 +32,7 @@ horn = 3
 abbrev pub stroke : ℕ
 stroke = 4
 
--- tones: 0 none, 1 acute, 2 grave, 3 hook, 4 tilde, 5 dot
+-- 5.3 Tones: 0 no tone, 1 acute, 2 grave, 3 hook, 4 tilde, 5 dot.
 abbrev pub noTone : ℕ
 noTone = 0
 
@@ -51,19 +51,19 @@ tilde = 4
 abbrev pub dot : ℕ
 dot = 5
 
--- modes 0 (Telex) and 1 (VNI)
+-- 5.4 Modes: 0 Telex, 1 VNI.
 abbrev pub telex : ℕ
 telex = 0
 
 abbrev pub vni : ℕ
 vni = 1
 
--- the numbers of the characters of a quoted text; a base, a key or a byte of ASCII is that number
+-- 5.5 A quoted text stands for the numbers of its characters; those of ASCII are bases, keys and bytes.
 abbrev pub characters : String → List ℕ
 characters Quoted.[] = []
 characters (Quoted._∷_ c cs) = code c ∷ characters cs
 
--- is a number one of these
+-- 5.6 A number is among others when it is one of them; the others are a list or a quoted text.
 abbrev pub elem : ℕ → List ℕ → Bool
 elem b [] = false
 elem b (x ∷ []) = eqb b x
@@ -72,11 +72,11 @@ elem b (x ∷ y ∷ ys) = eqb b x || elem b (y ∷ ys)
 abbrev pub among : ℕ → String → Bool
 among b cs = elem b (characters cs)
 
--- a letter in lower case
+-- 5.7 A small letter is a base in a shape, and no capital.
 abbrev pub small : ℕ → ℕ → Letter
 small b sh = record { base = b; shape = sh; capital = false }
 
--- the letters that carry a shape, by their names; any other character names a plain letter
+-- 5.8 The names ă, â, ê, ô, ơ, ư and đ are letters with a shape; every other character names a plain letter.
 abbrev shapedNames : List (ℕ × Letter)
 shapedNames =
     (code "ă", small (code "a") breve) ∷ (code "â", small (code "a") circumflex) ∷ (code "ê", small (code "e") circumflex) ∷
@@ -89,7 +89,7 @@ namedIn (x ∷ xs) c = elim (eqb c (x .0)) [ true ↦ x .1 | false ↦ namedIn x
 abbrev pub named : ℕ → Letter
 named c = namedIn shapedNames c
 
--- a quoted word, and quoted words with a space between each two
+-- 5.9 A quoted word stands for its letters, and quoted words with a space between each two for their list.
 abbrev pub word : String → Letters
 word cs = map named (characters cs)
 
@@ -104,7 +104,8 @@ wordsOf (c ∷ cs) = elim (eqb c (code " ")) [ true ↦ [] ∷ wordsOf cs | fals
 abbrev pub words : String → List Letters
 words cs = wordsOf (characters cs)
 
--- the same letter in the same shape, in either case
+-- 5.10 Two letters are the same when their bases and their shapes are; case makes no difference. Two words are the
+-- same when all their letters are.
 abbrev pub is : Letter → Letter → Bool
 is x z = eqb (x .base) (z .base) && eqb (x .shape) (z .shape)
 
@@ -114,6 +115,7 @@ same [] (z ∷ zs) = false
 same (x ∷ xs) [] = false
 same (x ∷ xs) (z ∷ zs) = elim (is x z) [ true ↦ same xs zs | false ↦ false ]
 
+-- 5.11 A word is one of a list when it is the same as some word of the list.
 abbrev pub someWord : (Letters → Bool) → List Letters → Bool
 someWord f [] = false
 someWord f (z ∷ zs) = elim (f z) [ true ↦ true | false ↦ someWord f zs ]
@@ -121,16 +123,17 @@ someWord f (z ∷ zs) = elim (f z) [ true ↦ true | false ↦ someWord f zs ]
 abbrev pub oneOf : Letters → List Letters → Bool
 oneOf w zs = someWord (same w) zs
 
+-- 5.12 A word may be empty. Its first base is that of its first letter, and 0 where it is empty.
 abbrev pub isNil : Letters → Bool
 isNil [] = true
 isNil (x ∷ xs) = false
 
--- the base of the first letter, 0 where there is none
 abbrev pub firstBase : Letters → ℕ
 firstBase [] = 0
 firstBase (x ∷ xs) = x .base
 
--- shapes that a letter can carry: circumflex on a e o, breve on a, horn on o u, stroke on d; every letter is plain
+-- 5.13 Every letter can be plain. The circumflex goes on a, e and o, the breve on a, the horn on o and u, the stroke
+-- on d, and no shape goes on anything else.
 abbrev pub carries : ℕ → ℕ → Bool
 carries sh b =
     eqb sh plain || ((eqb sh circumflex && among b "aeo") || ((eqb sh breve && among b "a") || ((eqb sh horn && among b "ou") || (eqb sh stroke && among b "d"))))

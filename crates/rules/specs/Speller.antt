@@ -1,4 +1,4 @@
--- Document 01, "The speller": the standard key list, and a shown text read back (refusals 6 and 7).
+-- 11 The speller (docs/RULES.md): the standard key list, a shown text read back, and its fault.
 use mathlib.Core.Bool.{Bool, true, false, _&&_, _||_}
 use mathlib.Core.List.{List, [], _∷_, _++_}
 use Prim.Native.Nat.{ℕ, zero, suc, _-_}
@@ -9,7 +9,7 @@ use Rattle.rules.specs.Letters.{Letter, Letters, plain, circumflex, brev
 use Rattle.rules.specs.TakingApart.{verdict}
 use Rattle.rules.specs.CodePoints.{Sign, point, utf8, signs, alphabet}
 
--- Each letter in its case,
+-- 11.1 A letter is spelled by its base as a key, in the letter's own case.
 abbrev pub keyInCase : Bool → ℕ → ℕ
 keyInCase true b = b - 32
 keyInCase false b = b
@@ -17,7 +17,7 @@ keyInCase false b = b
 abbrev pub keyOfLetter : Letter → ℕ
 keyOfLetter x = keyInCase (x .capital) (x .base)
 
--- its shape or stroke key directly after it,
+-- 11.2 Each shape has its key in a mode; for the Telex circumflex it is the base of the letter.
 abbrev pub keyFor : List (ℕ × ℕ) → ℕ → ℕ
 keyFor [] n = 0
 keyFor (x ∷ xs) n = elim (eqb n (x .0)) [ true ↦ x .1 | false ↦ keyFor xs n ]
@@ -31,7 +31,8 @@ vniShapeKeys = (circumflex, code "6") ∷ (horn, code "7") ∷ (breve, code "8")
 abbrev pub shapeKey : ℕ → Letter → ℕ
 shapeKey mode x = elim (eqb mode telex) [ true ↦ keyFor (telexShapeKeys (x .base)) (x .shape) | false ↦ keyFor vniShapeKeys (x .shape) ]
 
--- one horn key after the o of ươ: none after its ư,
+-- 11.3 Directly after a letter with a shape stands its shape key. But ư has none where ơ comes next: the key after
+-- the ơ is for both.
 abbrev pub awaitsO : Letter → Letters → Bool
 awaitsO x [] = false
 awaitsO x (z ∷ zs) = is x (named (code "ư")) && is z (named (code "ơ"))
@@ -43,7 +44,8 @@ abbrev pub letterKeys : ℕ → Letters → List ℕ
 letterKeys mode [] = []
 letterKeys mode (x ∷ xs) = keyOfLetter x ∷ (keysAfter mode x xs ++ letterKeys mode xs)
 
--- the tone key last; these added keys are lower case.
+-- 11.4 The standard key list is the letters, with their shape keys, and then the tone key, if there is a tone. Shape
+-- and tone keys are small.
 abbrev pub telexToneKeys : List (ℕ × ℕ)
 telexToneKeys = (acute, code "s") ∷ (grave, code "f") ∷ (hook, code "r") ∷ (tilde, code "x") ∷ (dot, code "j") ∷ []
 
@@ -59,7 +61,7 @@ toneKeys mode t = elim (eqb t noTone) [ true ↦ [] | false ↦ toneKey mode t �
 unfoldable pub standardKeys : ℕ → Letters → ℕ → List ℕ
 standardKeys mode w t = letterKeys mode w ++ toneKeys mode t
 
--- The letter of the alphabet that starts a text: its bytes stand there.
+-- 11.5 A letter of the alphabet starts at a byte of the text when its bytes stand there.
 abbrev pub starts : List ℕ → List ℕ → Bool
 starts [] bs = true
 starts (c ∷ cs) [] = false
@@ -76,7 +78,8 @@ frontIn (s ∷ ss) bs = elim (starts (utf8 (point s)) bs) [ true ↦ aLetter s |
 unfoldable pub letterAt : List ℕ → Front
 letterAt bs = frontIn alphabet bs
 
--- A text read: its letters as shown, or the place of a byte where no letter of the alphabet starts.
+-- 11.6 A text is read from its front, letter after letter. Where no letter starts the reading ends with the place of
+-- this byte, from 0.
 pub data Reading : Type 0 where
   stuckAt : ℕ → Reading
   reading : List Sign → Reading
@@ -102,7 +105,7 @@ readFrom zero at (b ∷ bs) = goOn at (λ more. readFrom more (suc at) bs) (lett
 unfoldable pub read : List ℕ → Reading
 read bs = readFrom 0 0 bs
 
--- the letters, the tones, and the tone of what is read
+-- 11.7 What is read has letters, and the tones that stand on them; its tone is the first of these, or 0.
 abbrev pub lettersIn : List Sign → Letters
 lettersIn [] = []
 lettersIn (s ∷ ss) = s .letter ∷ lettersIn ss
@@ -129,7 +132,9 @@ sameTones [] (z ∷ zs) = false
 sameTones (s ∷ ss) [] = false
 sameTones (s ∷ ss) (z ∷ zs) = eqb (s .tone) (z .tone) && sameTones ss zs
 
--- Not a syllable as shown: 8 if two letters carry a tone; else the verdict 1 to 7; else 9 if the tone stands on another letter; 0 a syllable as shown.
+-- 11.8 The fault is 8 where two letters or more carry a tone. Else it is the verdict, where that is not 0. Else it is
+-- 9 where the tone is on another letter than where the word would show it. Else it is 0, and the text is a syllable
+-- as shown.
 abbrev pub fault : List Sign → ℕ
 fault ss =
     elim (twoTones (tonesIn ss)) [
@@ -140,6 +145,6 @@ fault ss =
       ]
     ]
 
--- The standard key list of what is read.
+-- 11.9 What is spelled is the standard key list of the letters and the tone that were read.
 abbrev pub spelled : ℕ → List Sign → List ℕ
 spelled mode ss = standardKeys mode (lettersIn ss) (toneIn ss)

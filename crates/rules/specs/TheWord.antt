@@ -1,4 +1,4 @@
--- Document 01, "The word": the word as the paper has it, its record, a new word, and what is kept of each key.
+-- 4 The word (docs/RULES.md): the limits, the word and its record, a new word, and what is kept of each key.
 use mathlib.Core.Bool.{Bool, true, false}
 use mathlib.Core.List.{List, [], _∷_, _++_, map}
 use Prim.Native.Nat.{ℕ, _+_, _*_, _/_, _%_}
@@ -10,20 +10,22 @@ use Rattle.rules.specs.declared.Act.{Act}
 use Rattle.rules.specs.declared.Outcome.{Outcome}
 use Rattle.rules.specs.declared.Outcome.the-variants.{Acted, Undone, Appended}
 
--- Limits: 32 keys a word, 96 bytes of text.
+-- 4.1 A word has at most 32 keys, and a text at most 96 bytes.
 abbrev pub mostKeys : ℕ
 mostKeys = 32
 
 abbrev pub mostBytes : ℕ
 mostBytes = 96
 
--- A word is its mode, a list of letters, one tone for the whole word, an open or closed mark, and the keys typed; counts are kept.
--- What a key can change of it: the letters, the tone and the mark.
+-- 4.2 Three things of a word can be changed by a key: its letters, its tone, which is one for the whole word, and its
+-- mark, open or closed.
 pub record State : Type 0 where
   pub letters : Letters
   pub tone : ℕ
   pub closed : Bool
 
+-- 4.3 A word is these three, its mode, the keys typed into it, and the counts of those that acted, that undid and
+-- that were appended.
 pub record Typed : Type 0 where
   pub mode : ℕ
   pub state : State
@@ -32,7 +34,8 @@ pub record Typed : Type 0 where
   pub undone : ℕ
   pub appended : ℕ
 
--- A new word is open and empty, tone 0, counts 0, every unused place with the same one filler.
+-- 4.4 A new word has its mode, no letters, no keys, tone 0, counts of 0, and is open. Each unused place holds the
+-- filler, 0.
 abbrev pub filler : ℕ
 filler = 0
 
@@ -51,7 +54,7 @@ newWord m =
       appended = 0;
     }
 
--- A letter's number in the record, base + 256 · shape and 2048 more for a capital, read as the letter; and written.
+-- 4.5 In a record a letter is one number: its base, 256 times its shape, and 2048 more for a capital.
 abbrev pub letter : ℕ → Letter
 letter n = record { base = n % 256; shape = n / 256 % 8; capital = eqb (n / 2048 % 2) 1 }
 
@@ -62,7 +65,7 @@ capitalNumber false = 0
 abbrev pub number : Letter → ℕ
 number x = x .base + 256 * x .shape + capitalNumber (x .capital)
 
--- The word that a record holds: places past its counts are not read.
+-- 4.6 A record holds the word in its places below the counts. Places past the counts are not read.
 abbrev pub wordOf : Word → Typed
 wordOf w =
     record {
@@ -74,11 +77,11 @@ wordOf w =
       appended = w .appended;
     }
 
--- A list at the front of a longer one, whose other places stay as they were.
+-- 4.7 A list is written at the front of the places; those behind it stay as they were.
 abbrev pub atFront : List ℕ → List ℕ → List ℕ
 atFront new old = new ++ drop (length new) old
 
--- The record with another word in it: places past its counts come back as they were, unless a key or letter is added there.
+-- 4.8 A record into which another word is put keeps every place past that word's counts as it was.
 abbrev pub holding : Word → Typed → Word
 holding w z =
     record {
@@ -94,7 +97,8 @@ holding w z =
       appended = z .appended;
     }
 
--- Each key does one of: act, undo, or be appended; the step's answer holds which, with the new word.
+-- 4.9 A key does one of three things: it acts, it undoes, or it is appended. The answer says which, and gives the
+-- word after it.
 pub data Done : Type 0 where
   acted : Act → State → Done
   undone : State → Done
@@ -110,7 +114,7 @@ outcomeOf (acted a s) = Acted a
 outcomeOf (undone s) = Undone
 outcomeOf (appended s) = Appended
 
--- Counts of each are kept.
+-- 4.10 The key joins the keys typed, and one of the three counts goes up by 1: that of what it did.
 abbrev pub oneMore : Bool → ℕ → ℕ
 oneMore true n = n + 1
 oneMore false n = n

@@ -1,4 +1,4 @@
--- Document 01, "Where the tone is shown".
+-- 8 Where the tone is shown (docs/RULES.md): the place of the tone within the nucleus and in the word.
 use mathlib.Core.Bool.{Bool, true, false, not, _&&_, _||_}
 use mathlib.Core.List.{[], _∷_}
 use mathlib.Core.Option.{Option, none, some}
@@ -10,7 +10,7 @@ use Rattle.rules.specs.TakingApart.{initial, nucleus, final, leftovers}
 use Rattle.rules.specs.declared.Place.{Place}
 use Rattle.rules.specs.declared.Place.the-variants.{At, Nowhere}
 
--- the place of the last shaped letter, if any
+-- 8.1 The last shaped letter of a nucleus is the last one that is not plain, if there is one.
 abbrev pub orHere : Option ℕ → Bool → Option ℕ
 orHere (some n) here = some (suc n)
 orHere none true = some 0
@@ -20,7 +20,8 @@ abbrev pub lastShaped : Letters → Option ℕ
 lastShaped [] = none
 lastShaped (x ∷ xs) = orHere (lastShaped xs) (not (eqb (x .shape) plain))
 
--- of three the middle; else of two the first when the final is empty and there are no leftovers, otherwise the second; else (four or more) the first
+-- 8.2 Of three plain letters the second has the tone. Of two it is the first where the word ends with them, with no
+-- final and no leftovers, and else the second. Of four or more it is the first.
 abbrev pub byCount : ℕ → Bool → ℕ
 byCount n ends =
     elim (eqb n 3) [
@@ -31,7 +32,8 @@ byCount n ends =
       ]
     ]
 
--- a single letter; else the last shaped letter; else by the count
+-- 8.3 A nucleus of one letter has the tone on it. A longer one has it on its last shaped letter, or where all are
+-- plain on the letter that 8.2 says.
 abbrev pub orByCount : Option ℕ → ℕ → ℕ
 orByCount (some at) n = at
 orByCount none n = n
@@ -39,7 +41,8 @@ orByCount none n = n
 abbrev pub placeWithin : Letters → Bool → ℕ
 placeWithin nuc ends = elim (eqb (length nuc) 1) [ true ↦ 0 | false ↦ orByCount (lastShaped nuc) (byCount (length nuc) ends) ]
 
--- The place is counted from 0 over the word's letters; none if the tone is 0 or the nucleus is empty.
+-- 8.4 The place of the tone is its letter's place in the word, from 0, the letters of the initial in front. A tone of
+-- 0 has no place, nor has any tone where there is no nucleus.
 abbrev pub placeUnless : Bool → ℕ → Place
 placeUnless true at = Nowhere
 placeUnless false at = At at

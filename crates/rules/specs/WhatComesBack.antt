@@ -1,4 +1,4 @@
--- Document 01, "What comes back, and refusal numbers": the whole answer of each entry, on success and on refusal.
+-- 2 What comes back (docs/RULES.md): the whole answer of each entry, on success and on refusal.
 use mathlib.Core.List.{List, [], _∷_}
 use mathlib.Core.Option.{Option, none, some}
 use Prim.Native.Nat.{ℕ}
@@ -39,7 +39,7 @@ use Rattle.rules.specs.declared.CommitAnswer.{CommitAnswer}
 use Rattle.rules.specs.declared.CommitAnswer.the-variants.{Granted}
 use Rattle.rules.specs.declared.CommitAnswer.the-variants.{Refused as CommitRefused}
 
--- start: a mode.
+-- 2.1 Start is handed a mode and gives a new word in it. Refused, it gives a new word in Telex.
 abbrev pub startCall : ℕ → Call
 startCall m = record { record? = none; mode? = some m; keys? = none; text? = none; room? = none }
 
@@ -50,7 +50,8 @@ startOr (some r) m = record { answer = StartRefused r; word = newWord telex }
 abbrev pub start : ℕ → Start
 start m = startOr (refusal (startCall m)) m
 
--- step: a word and a key. After a refusal the record is unchanged.
+-- 2.2 Step is handed a word and one key, and reads the mode from the word. It says what the key did, and gives the
+-- record with the word after this key. Refused, it gives the record as it was.
 abbrev pub stepCall : Word → ℕ → Call
 stepCall w k = record { record? = some w; mode? = none; keys? = some (record { mode = w .mode; already = w .typed; bytes = k ∷ [] }); text? = none; room? = none }
 
@@ -61,7 +62,8 @@ stepOr (some r) w k = record { answer = StepRefused r; word = w }
 unfoldable pub step : Word → ℕ → Step
 step w k = stepOr (refusal (stepCall w k)) w k
 
--- typing a whole list: a mode and keys, from a new word.
+-- 2.3 Typing a list is handed a mode and keys. It gives the record of a new word into which all of them were typed.
+-- Refused, it gives a new word in Telex.
 abbrev pub typeCall : ℕ → List ℕ → Call
 typeCall m ks = record { record? = none; mode? = some m; keys? = some (record { mode = m; already = 0; bytes = ks }); text? = none; room? = none }
 
@@ -75,7 +77,8 @@ typeOr (some r) m ks = record { answer = TypeRefused r; word = newWord telex }
 unfoldable pub typeAll : ℕ → List ℕ → TypeAll
 typeAll m ks = typeOr (refusal (typeCall m ks)) m ks
 
--- An entry with a lent output: its answer, and the output at exit. After success the output holds the text at its front and the rest is unchanged; after a refusal it is unchanged.
+-- 2.4 An entry with a lent output says how many bytes it wrote. They stand at the front of the output, and what is
+-- behind them is as it was. Refused, all of the output is as it was.
 pub record Written : Type 0 where
   pub answer : WriteAnswer
   pub output : List ℕ
@@ -84,17 +87,18 @@ abbrev pub writeOr : Option Refusal → List ℕ → List ℕ → Written
 writeOr none text out = record { answer = Wrote (length text); output = atFront text out }
 writeOr (some r) text out = record { answer = WriteRefused r; output = out }
 
--- show: a word and a lent output.
+-- 2.5 Show is handed a word and an output, and writes the text that the word shows.
 abbrev pub showCall : Word → List ℕ → Call
 showCall w out = record { record? = some w; mode? = none; keys? = none; text? = none; room? = some (record { needed = length (shown (wordOf w .state)); there = length out }) }
 
 unfoldable pub show : Word → List ℕ → Written
 show w out = writeOr (refusal (showCall w out)) (shown (wordOf w .state)) out
 
--- the tone's place, the verdict, the decision: a word.
+-- 2.6 Place, verdict and decision are handed a word and nothing else.
 abbrev pub wordCall : Word → Call
 wordCall w = record { record? = some w; mode? = none; keys? = none; text? = none; room? = none }
 
+-- 2.7 Place says where the tone of the word stands, or that it stands nowhere.
 abbrev pub placeOr : Option Refusal → Word → PlaceAnswer
 placeOr none w = Found (tonePlace (wordOf w .state .letters) (wordOf w .state .tone))
 placeOr (some r) w = PlaceRefused r
@@ -102,6 +106,7 @@ placeOr (some r) w = PlaceRefused r
 unfoldable pub placeAnswer : Word → PlaceAnswer
 placeAnswer w = placeOr (refusal (wordCall w)) w
 
+-- 2.8 Verdict says the verdict on the word.
 abbrev pub verdictOr : Option Refusal → Word → VerdictAnswer
 verdictOr none w = Judged (verdict (wordOf w .state .letters) (wordOf w .state .tone))
 verdictOr (some r) w = VerdictRefused r
@@ -109,6 +114,7 @@ verdictOr (some r) w = VerdictRefused r
 unfoldable pub verdictAnswer : Word → VerdictAnswer
 verdictAnswer w = verdictOr (refusal (wordCall w)) w
 
+-- 2.9 Decision says whether the word is kept or restored.
 abbrev pub decisionOr : Option Refusal → Word → DecisionAnswer
 decisionOr none w = Decided (decision (wordOf w))
 decisionOr (some r) w = DecisionRefused r
@@ -116,7 +122,8 @@ decisionOr (some r) w = DecisionRefused r
 unfoldable pub decisionAnswer : Word → DecisionAnswer
 decisionAnswer w = decisionOr (refusal (wordCall w)) w
 
--- commit: a mode, keys and a text. After a refusal it returns an empty part of the keys, and a separate question on the same input gives its number.
+-- 2.10 Commit is handed a mode, keys, and a text that must be what they show. It hands back this text or these keys,
+-- by the decision on the word that the keys make. Refused, it hands back an empty part of the keys.
 abbrev pub commitCall : ℕ → List ℕ → List ℕ → Call
 commitCall m ks text =
     record { record? = none; mode? = some m; keys? = some (record { mode = m; already = 0; bytes = ks }); text? = some (toCommit (shown (typed m ks .state)) text); room? = none }
@@ -128,6 +135,7 @@ commitOr (some r) m ks text = []
 unfoldable pub commit : ℕ → List ℕ → List ℕ → List ℕ
 commit m ks text = commitOr (refusal (commitCall m ks text)) m ks text
 
+-- 2.11 Commit's question is handed the same. It says that commit is granted, or its refusal.
 abbrev pub grantedOr : Option Refusal → CommitAnswer
 grantedOr none = Granted
 grantedOr (some r) = CommitRefused r
@@ -135,7 +143,8 @@ grantedOr (some r) = CommitRefused r
 unfoldable pub commitAnswer : ℕ → List ℕ → List ℕ → CommitAnswer
 commitAnswer m ks text = grantedOr (refusal (commitCall m ks text))
 
--- speller: a mode, a text and a lent output.
+-- 2.12 The speller is handed a mode, a text and an output. It writes the standard key list of the syllable that the
+-- text shows.
 abbrev pub keysOf : ℕ → Reading → List ℕ
 keysOf mode (stuckAt n) = []
 keysOf mode (reading ss) = spelled mode ss

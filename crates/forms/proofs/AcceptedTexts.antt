@@ -13,8 +13,8 @@ use Rattle.rules.specs.Speller.{Reading, reading, read, lettersIn, toneIn, faul
 use Rattle.rules.specs.Refusals.{isMode, isStuck, faultOf}
 use Rattle.rules.specs.WhatComesBack.{spell}
 use Rattle.rules.specs.declared.WriteAnswer.the-variants.{Wrote}
-use Rattle.forms.specs.Syllables.{Syllable, openWord}
-use Rattle.forms.specs.Spelling.{AcceptedText, ShownBySyllable, writtenKeys, Writes}
+use Rattle.rules.specs.Syllables.{Syllable, openWord, ShownBySyllable}
+use Rattle.forms.specs.Spelling.{AcceptedText, writtenKeys, Writes}
 use Rattle.forms.proofs.StandardList.{standard-list}
 use Rattle.forms.proofs.RoundTrip.{round-trip}
 use Rattle.forms.proofs.ReadBack.{was-read}

@@ -6,7 +6,8 @@ use Rattle.rules.specs.Letters.{Letters}
 use Rattle.rules.specs.KeyRoles.{lower}
 use Rattle.rules.specs.Speller.{toneKeys}
 use Rattle.rules.specs.Refusals.{isMode}
-use Rattle.forms.specs.Syllables.{Syllable, bareKeys, markKeys, Order, Gives}
+use Rattle.rules.specs.Syllables.{Syllable, bareKeys, markKeys, Order}
+use Rattle.forms.specs.Spelling.{Gives}
 use Rattle.forms.proofs.Typings.{order-gives}
 
 -- ks: any keys whose lower case is the tone key, the stroke key and the shape key of the syllable, those it has, in any order.

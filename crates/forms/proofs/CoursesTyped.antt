@@ -17,7 +17,7 @@ use Rattle.rules.specs.declared.ToneKey.the-variants.{SetTone, ClearTone}
 use Rattle.rules.specs.declared.Act.{Act}
 use Rattle.rules.proofs.Commute.{Acts, by-shape, by-stroke, acted-if}
 use Rattle.forms.specs.Forms.{capitals}
-use Rattle.forms.specs.Syllables.{openWord, bareKeys}
+use Rattle.rules.specs.Syllables.{openWord, bareKeys}
 use Rattle.forms.proofs.KeyCourses.{Item, letter, mark, itemKeys, roleOf, editBy, walk, typesTo}
 use Rattle.forms.proofs.SomeAndEvery.{and-if}
 use Rattle.forms.proofs.Presses.{press, pressing, letter-of-key, letter-allowed}

@@ -13,7 +13,7 @@ use Rattle.rules.specs.Speller.{lettersIn, tonesIn, firstTone, toneIn, twoTones
 use Rattle.letters.specs.Alphabet.{everySign, inAlphabet}
 use Rattle.letters.proofs.Fronts.{of-alphabet}
 use Rattle.rules.specs.CodePoints.{alphabet}
-use Rattle.forms.specs.Syllables.{Syllable}
+use Rattle.rules.specs.Syllables.{Syllable}
 use Rattle.forms.proofs.ReadBack.{allInAlphabet}
 use Rattle.forms.proofs.Signs.{letters-back, tones-back}
 

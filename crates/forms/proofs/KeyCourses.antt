@@ -9,7 +9,7 @@ use Rattle.rules.specs.KeyRoles.{isSmall, roleIn, telexRoles, vniRoles, role, s
 use Rattle.rules.specs.Speller.{keyOfLetter, keysAfter}
 use Rattle.rules.specs.declared.Role.{Role}
 use Rattle.rules.specs.declared.Role.the-variants.{ToneRole, ShapeRole, StrokeRole, NoRole}
-use Rattle.forms.specs.Syllables.{openWord}
+use Rattle.rules.specs.Syllables.{openWord}
 
 pub data Item : Type 0 where
   letter : Letter → Item

@@ -16,7 +16,7 @@ use Rattle.rules.specs.declared.Role.{Role}
 use Rattle.rules.proofs.Tests.{or-l, or-r}
 use Rattle.rules.proofs.Typing.{of-modes}
 use Rattle.forms.specs.Forms.{capitals}
-use Rattle.forms.specs.Syllables.{bareKeys, markKeys, Picks, here, there, Order, done, next}
+use Rattle.rules.specs.Syllables.{bareKeys, markKeys, Picks, this-one, a-later-one, Order, all-taken, first-this}
 use Rattle.forms.proofs.KeyCourses.{Item, letter, mark, itemKeys, course, roleOf, bare}
 use Rattle.rules.proofs.Tests.{is-false}
 use Rattle.forms.proofs.CoursesTyped.{itemCapitals}
@@ -41,30 +41,30 @@ roles-lower mode (k ∷ ks) = ap₂ (λ (r : Role) (rs : List Role). r ∷ rs) (
 
 -- the same in another order
 picks-map : (f : ℕ → Role) {k : ℕ} {ks js : List ℕ} → Picks k ks js → Picks (f k) (map f ks) (map f js)
-picks-map f here = here
-picks-map f (there p) = there (picks-map f p)
+picks-map f this-one = this-one
+picks-map f (a-later-one p) = a-later-one (picks-map f p)
 
 pub order-map : (f : ℕ → Role) {ks js : List ℕ} → Order ks js → Order (map f ks) (map f js)
-order-map f done = done
-order-map f (next p o) = next (picks-map f p) (order-map f o)
+order-map f all-taken = all-taken
+order-map f (first-this p o) = first-this (picks-map f p) (order-map f o)
 
 picks-all : (f : ℕ → Bool) {k : ℕ} {ks js : List ℕ} → Picks k ks js → T (all f ks) → T (f k) × T (all f js)
-picks-all f {k} (here {xs = xs}) t = (and-l (f k) (all f xs) t, and-r (f k) (all f xs) t)
-picks-all f (there {y = y} {xs = xs} {ys = ys} p) t =
+picks-all f {k} (this-one {xs = xs}) t = (and-l (f k) (all f xs) t, and-r (f k) (all f xs) t)
+picks-all f (a-later-one {y = y} {xs = xs} {ys = ys} p) t =
     let (h, i) = picks-all f p (and-r (f y) (all f xs) t) in
     (h, and-i (f y) (all f ys) (and-l (f y) (all f xs) t) i)
 
 order-all : (f : ℕ → Bool) {ks js : List ℕ} → Order ks js → T (all f ks) → T (all f js)
-order-all f done t = tt
-order-all f (next {x = x} {zs = zs} p o) t = let (h, i) = picks-all f p t in and-i (f x) (all f zs) h (order-all f o i)
+order-all f all-taken t = tt
+order-all f (first-this {x = x} {zs = zs} p o) t = let (h, i) = picks-all f p t in and-i (f x) (all f zs) h (order-all f o i)
 
 picks-length : {k : ℕ} {ks js : List ℕ} → Picks k ks js → length ks ≡ suc (length js)
-picks-length here = refl
-picks-length (there p) = ap suc (picks-length p)
+picks-length this-one = refl
+picks-length (a-later-one p) = ap suc (picks-length p)
 
 order-length : {ks js : List ℕ} → Order ks js → length ks ≡ length js
-order-length done = refl
-order-length (next p o) = picks-length p ∙ ap suc (order-length o)
+order-length all-taken = refl
+order-length (first-this p o) = picks-length p ∙ ap suc (order-length o)
 
 -- allowed keys
 pub all-append : (f : ℕ → Bool) (xs ys : List ℕ) → T (all f xs) → T (all f ys) → T (all f (xs ++ ys))

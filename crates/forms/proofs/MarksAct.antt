@@ -24,7 +24,7 @@ use Rattle.rules.proofs.Edits.{Good, good-shape, good-stroke}
 use Rattle.rules.proofs.Commute.{by-tone, Differ, tone-shape, tone-stroke, shape-stroke, swapped}
 use Rattle.rules.proofs.Typing.{of-modes}
 use Rattle.forms.specs.Forms.{capitals}
-use Rattle.forms.specs.Syllables.{openWord}
+use Rattle.rules.specs.Syllables.{openWord}
 use Rattle.forms.proofs.KeyCourses.{editBy}
 use Rattle.forms.proofs.Tests.{isChange, isNothing, changesTo, apart, alone, freshIs, leads, lastStep, chain}
 use Rattle.forms.proofs.Capitals.{same-capitals, left-good, left}

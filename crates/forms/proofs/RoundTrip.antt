@@ -7,8 +7,8 @@ use Rattle.rules.specs.CodePoints.{signs, shown}
 use Rattle.rules.specs.Speller.{read, standardKeys}
 use Rattle.rules.specs.Refusals.{isMode}
 use Rattle.rules.specs.WhatComesBack.{keysOf}
-use Rattle.forms.specs.Syllables.{Syllable, openWord, Gives}
-use Rattle.forms.specs.Spelling.{SpelledBack}
+use Rattle.rules.specs.Syllables.{Syllable, openWord}
+use Rattle.forms.specs.Spelling.{Gives, SpelledBack}
 use Rattle.forms.proofs.StandardList.{standard-list, one-list}
 use Rattle.forms.proofs.ReadBack.{reads-back}
 use Rattle.forms.proofs.Signs.{letters-back, signs-known, tones-back}

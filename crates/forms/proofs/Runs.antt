@@ -9,7 +9,7 @@ use Rattle.rules.specs.KeyRoles.{role, letterOfKey, unlessClosed}
 use Rattle.rules.specs.declared.Role.{Role}
 use Rattle.rules.specs.declared.Act.{Act}
 use Rattle.rules.proofs.Commute.{Acts, Differ, swapped, acted-if, stays-open, commute}
-use Rattle.forms.specs.Syllables.{Picks, here, there, Order, done, next}
+use Rattle.rules.specs.Syllables.{Picks, this-one, a-later-one, Order, all-taken, first-this}
 use Rattle.forms.proofs.Presses.{pressing}
 use Rattle.forms.proofs.Capitals.{Left, left}
 
@@ -56,16 +56,16 @@ record Picked (P : Role → Type 0) (r : Role) (qs : List Role) : Type 0 where
   others : Each P qs
 
 picked : {P : Role → Type 0} {r : Role} {rs qs : List Role} → Picks r rs qs → Each P rs → Picked P r qs
-picked here (also p e) = record { one = p; others = e }
-picked (there x) (also p e) = let q = picked x e in record { one = q .one; others = also p (q .others) }
+picked this-one (also p e) = record { one = p; others = e }
+picked (a-later-one x) (also p e) = let q = picked x e in record { one = q .one; others = also p (q .others) }
 
 record PickedApart (r : Role) (qs : List Role) : Type 0 where
   differs : Each (Differ r) qs
   apart : Apart qs
 
 picked-apart : {r : Role} {rs qs : List Role} → Picks r rs qs → Apart rs → PickedApart r qs
-picked-apart here (and-from d x) = record { differs = d; apart = x }
-picked-apart (there p) (and-from d x) =
+picked-apart this-one (and-from d x) = record { differs = d; apart = x }
+picked-apart (a-later-one p) (and-from d x) =
     let e = picked-apart p x in
     let f = picked p d in
     record { differs = also (swapped (f .one)) (e .differs); apart = and-from (f .others) (e .apart) }
@@ -91,12 +91,12 @@ sooner g d (can h) f =
     record { act = _; to = _; acts = h; rest = then (c .2) (runs-from (unique (f .acts) (c .1)) (f .rest)) }
 
 first : {r : Role} {rs qs : List Role} {s u : State} → Picks r rs qs → Apart rs → Each (Can s) rs → Runs s rs u → First r s qs u
-first here x c (then g r) = record { act = _; to = _; acts = g; rest = r }
-first (there p) (and-from d x) (also c e) (then g r) = sooner g (picked p d .one) (picked p e .one) (first p x (after g d e) r)
+first this-one x c (then g r) = record { act = _; to = _; acts = g; rest = r }
+first (a-later-one p) (and-from d x) (also c e) (then g r) = sooner g (picked p d .one) (picked p e .one) (first p x (after g d e) r)
 
 pub any-order : {rs zs : List Role} {s u : State} → Order rs zs → Apart rs → Each (Can s) rs → Runs s rs u → Runs s zs u
-any-order done x c r = r
-any-order (next p o) x c r =
+any-order all-taken x c r = r
+any-order (first-this p o) x c r =
     let f = first p x c r in
     let y = picked-apart p x in
     then (f .acts) (any-order o (y .apart) (after (f .acts) (y .differs) (picked p c .others)) (f .rest))

@@ -15,7 +15,7 @@ use Rattle.rules.specs.declared.Place.{Place}
 use Rattle.rules.specs.declared.Place.the-variants.{At, Nowhere}
 use Rattle.letters.specs.Alphabet.{inAlphabet}
 use Rattle.forms.specs.Forms.{allForms, every, EveryForm}
-use Rattle.forms.specs.Syllables.{Syllable}
+use Rattle.rules.specs.Syllables.{Syllable}
 use Rattle.rules.proofs.Tests.{is-false}
 use Rattle.rules.proofs.TonePlaces.{vowelAt}
 use Rattle.forms.proofs.SomeAndEvery.{everyRow}

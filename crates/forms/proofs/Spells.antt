@@ -12,13 +12,13 @@ use Rattle.rules.specs.Letters.{Letters, telex}
 use Rattle.rules.specs.TheWord.{mostBytes}
 use Rattle.rules.specs.CodePoints.{Sign, point, utf8, bytes, signs, shown}
 use Rattle.rules.specs.Speller.{read, lettersIn, keyOfLetter}
-use Rattle.rules.specs.Refusals.{isMode, isStuck, faultOf, table, refusal}
+use Rattle.rules.specs.Refusals.{isMode, isStuck, faultOf, table, refusal, NoneHolds, no-rows, not-this}
 use Rattle.rules.specs.WhatComesBack.{keysOf, spellCall, writeOr, spell}
 use Rattle.rules.specs.declared.Refusal.{Refusal}
 use Rattle.rules.specs.declared.WriteAnswer.the-variants.{Wrote}
 use Rattle.rules.proofs.Range.{not-not, twice, not-over}
-use Rattle.rules.proofs.Refused.{NoneHolds, no-rows, not-this, refusal-none}
-use Rattle.forms.specs.Syllables.{Syllable, openWord}
+use Rattle.rules.proofs.Refused.{refusal-none}
+use Rattle.rules.specs.Syllables.{Syllable, openWord}
 use Rattle.forms.specs.Spelling.{writtenKeys}
 use Rattle.forms.proofs.Typings.{few}
 use Rattle.forms.proofs.Keys.{letters-count}

@@ -8,7 +8,8 @@ use Rattle.rules.specs.TheWord.{State}
 use Rattle.rules.specs.Speller.{standardKeys}
 use Rattle.rules.specs.Refusals.{isMode}
 use Rattle.rules.specs.WhatComesBack.{typed}
-use Rattle.forms.specs.Syllables.{Syllable, Gives}
+use Rattle.rules.specs.Syllables.{Syllable}
+use Rattle.forms.specs.Spelling.{Gives}
 use Rattle.forms.proofs.Typings.{list-gives}
 
 -- Gives: the exact letters, with their capitals, the tone, open, the text, verdict 0, decision keep; all keys allowed, at most 9.

@@ -12,7 +12,7 @@ use Rattle.rules.specs.declared.Role.{Role}
 use Rattle.rules.specs.declared.Role.the-variants.{ToneRole, ShapeRole, StrokeRole, NoRole}
 use Rattle.rules.specs.declared.ShapeKey.{ShapeKey}
 use Rattle.rules.specs.declared.ShapeKey.the-variants.{CircumflexOn, Circumflex, Breve, Horn, HornBreve}
-use Rattle.forms.specs.Syllables.{markKeys}
+use Rattle.rules.specs.Syllables.{markKeys}
 use Rattle.forms.proofs.KeyCourses.{letter, course, bare, editBy, typesTo}
 
 abbrev pub isChange : Edit → Bool

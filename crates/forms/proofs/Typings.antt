@@ -15,7 +15,7 @@ use Rattle.rules.specs.KeyRoles.{isKey, role, lower, toneGoes}
 use Rattle.rules.specs.Decision.{keepIf, keeps, startsWithĐ, decision}
 use Rattle.rules.specs.CodePoints.{shown}
 use Rattle.rules.specs.Speller.{letterKeys, toneKeys, standardKeys}
-use Rattle.rules.specs.Refusals.{all, isMode}
+use Rattle.rules.specs.Refusals.{all, isMode, no-rows, not-this}
 use Rattle.rules.specs.WhatComesBack.{typed, typeCall, typeOr, typeAll}
 use Rattle.rules.specs.declared.Refusal.{Refusal}
 use Rattle.rules.specs.declared.TypeAnswer.the-variants.{AllTyped}
@@ -23,8 +23,9 @@ use Rattle.rules.specs.declared.Role.{Role}
 use Rattle.rules.specs.declared.Decision.the-variants.{Keep}
 use Rattle.rules.proofs.Tests.{or-r}
 use Rattle.rules.proofs.Range.{twice, not-over}
-use Rattle.rules.proofs.Refused.{no-rows, not-this, refusal-none}
-use Rattle.forms.specs.Syllables.{Syllable, openWord, bareKeys, markKeys, Order, Gives}
+use Rattle.rules.proofs.Refused.{refusal-none}
+use Rattle.rules.specs.Syllables.{Syllable, openWord, bareKeys, markKeys, Order}
+use Rattle.forms.specs.Spelling.{Gives}
 use Rattle.forms.proofs.KeyCourses.{letter, course, bare, typesTo}
 use Rattle.forms.proofs.Tests.{chain, bareTest, listTest, wordTest}
 use Rattle.forms.proofs.Bridge.{passed}

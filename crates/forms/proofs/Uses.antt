@@ -11,7 +11,7 @@ use Rattle.rules.specs.TonePlace.{tonePlace}
 use Rattle.rules.specs.CodePoints.{utf8Of, shown}
 use Rattle.rules.specs.Speller.{standardKeys}
 use Rattle.rules.specs.WhatComesBack.{typed, Written, spell}
-use Rattle.forms.specs.Syllables.{Syllable, openWord, here, there, done, next}
+use Rattle.rules.specs.Syllables.{Syllable, openWord, this-one, a-later-one, all-taken, first-this}
 use Rattle.forms.proofs.AnyOrder.{any-order}
 use Rattle.forms.proofs.StandardList.{standard-list}
 use Rattle.forms.proofs.AcceptedTexts.{shown-spelled}
@@ -25,10 +25,10 @@ unfolding verdict listed fits fit joins initial nucleus final leftovers
 
 -- Duong, then w D f; D u o n g, then 2 9 7
 by-w-D-f : typed telex (characters "DuongwDf") .state ≡ openWord Đương grave
-by-w-D-f = any-order telex tt Đương grave Đường (characters "wDf") (next (there (there here)) (next (there here) (next here done))) .state
+by-w-D-f = any-order telex tt Đương grave Đường (characters "wDf") (first-this (a-later-one (a-later-one this-one)) (first-this (a-later-one this-one) (first-this this-one all-taken))) .state
 
 by-2-9-7 : typed vni (characters "Duong297") .state ≡ openWord Đương grave
-by-2-9-7 = any-order vni tt Đương grave Đường (characters "297") (next here (next here (next here done))) .state
+by-2-9-7 = any-order vni tt Đương grave Đường (characters "297") (first-this this-one (first-this this-one (first-this this-one all-taken))) .state
 
 -- its standard lists
 telex-list : standardKeys telex Đương grave ≡ characters "Dduowngf"

@@ -1,4 +1,3 @@
 pub mod Forms
 pub mod Sizes
-pub mod Syllables
 pub mod Spelling

@@ -14,7 +14,7 @@ use Rattle.rules.specs.TheWord.{mostBytes, atFront}
 use Rattle.rules.specs.TakingApart.{initial, nucleus, final, listed, Check, firstThatHolds, oneToFive, sixAndSeven, verdict}
 use Rattle.rules.specs.CodePoints.{Sign, point, utf8, signs}
 use Rattle.rules.specs.Speller.{Front, noLetter, aLetter, Reading, stuckAt, reading, andThen, moreBytes, goOn, readFrom, read, letterAt, lettersIn, tonesIn, toneIn, twoTones, sameTones, fault, keysAfter, letterKeys, toneKeys, standardKeys, awaitsO, shapeKey, toneKey}
-use Rattle.rules.specs.Refusals.{isMode, isStuck, stuckPlace, faultOf, refusal, table}
+use Rattle.rules.specs.Refusals.{isMode, isStuck, stuckPlace, faultOf, refusal, table, NoneHolds, not-this}
 use Rattle.rules.specs.WhatComesBack.{Written, writeOr, keysOf, spellCall, spell}
 use Rattle.rules.specs.Drill.{newline, refusedLine}
 use Rattle.rules.specs.SpellProgram.{textCall, spelledOr, spelledLine}
@@ -23,7 +23,7 @@ use Rattle.rules.specs.declared.WriteAnswer.{WriteAnswer}
 use Rattle.rules.specs.declared.WriteAnswer.the-variants.{Wrote, Refused}
 use Rattle.rules.proofs.Tests.{is-true}
 use Rattle.rules.proofs.StaysInRange.{read-front}
-use Rattle.rules.proofs.Refused.{NoneHolds, not-this, refusal-none}
+use Rattle.rules.proofs.Refused.{refusal-none}
 use Rattle.lines.specs.Appending.{Appends, mostInLine}
 use Rattle.lines.proofs.Columns.{and-then, byte-put}
 

@@ -7,11 +7,11 @@ use lib.ListN.{length, take, drop}
 use lib.Seq.{take-length}
 use borrow.Author.Tests.{lt-ltb, le-ltb}
 use Rattle.rules.specs.TheWord.{atFront}
-use Rattle.rules.specs.Refusals.{refusal}
+use Rattle.rules.specs.Refusals.{refusal, table, FirstOf}
 use Rattle.rules.specs.AnswersInNumbers.{refusing, writeSays}
 use Rattle.rules.specs.declared.Refusal.{Refusal}
 use Rattle.rules.specs.declared.WriteAnswer.the-variants.{Wrote, Refused}
-use Rattle.rules.proofs.Refused.{Given, write-exactly, write-refused}
+use Rattle.rules.proofs.Refused.{write-exactly, write-refused}
 use Rattle.output.specs.Front.{roomCall, put}
 
 module _ (text out : List ℕ) where
@@ -27,7 +27,7 @@ module _ (text out : List ℕ) where
   all-of-it = ap (λ (l : List ℕ). l ++ drop (length text) out) (take-length text)
 
   -- refused exactly as the table says, and the output is then as it was
-  pub put-exactly : (x : Refusal) → writeSays (put text out .answer) ≡ refusing x ↔ Given (roomCall text out) x
+  pub put-exactly : (x : Refusal) → writeSays (put text out .answer) ≡ refusing x ↔ FirstOf (table (roomCall text out)) x
   unfolding put
   put-exactly x = write-exactly (roomCall text out) text out x
 

@@ -6,13 +6,17 @@ use Rattle.rules.specs.WhatComesBack.{start as startOf, step as stepOf, typeAll
 use Rattle.rules.specs.declared.Word.{Word}
 use Rattle.rules.specs.declared.Start.{Start}
 use Rattle.rules.specs.declared.Step.{Step}
+use Rattle.rules.specs.declared.StepAnswer.{StepAnswer}
 use Rattle.rules.specs.declared.TypeAll.{TypeAll}
 use Rattle.rules.specs.declared.WriteAnswer.{WriteAnswer}
 use Rattle.rules.specs.declared.PlaceAnswer.{PlaceAnswer}
 use Rattle.rules.specs.declared.VerdictAnswer.{VerdictAnswer}
 use Rattle.rules.specs.declared.DecisionAnswer.{DecisionAnswer}
 use Rattle.rules.specs.declared.CommitAnswer.{CommitAnswer}
-use Rattle.promises.specs.Contracts.{StartAllows, StepAllows, TypeAllows, ShowAllows, PlaceAllows, VerdictAllows, DecisionAllows, CommitAllows, QuestionAllows, SpellAllows}
+use Rattle.lines.specs.Programs.{lineAnswer}
+use Rattle.lines.specs.declared.Program.{Program}
+use Rattle.session.specs.declared.Session.{Session}
+use Rattle.promises.specs.Contracts.{StartAllows, StepAllows, TypeAllows, ShowAllows, PlaceAllows, VerdictAllows, DecisionAllows, CommitAllows, QuestionAllows, SpellAllows, LineAllows, KeyAllows}
 
 pub started : {m : ℕ} {r : Start} → StartAllows m r → r ≡ startOf m
 started a = a .post
@@ -42,8 +46,8 @@ decided a = a .post
 pub handed-back : {m : ℕ} {ks text part : List ℕ} → CommitAllows m ks text part → part ≡ commitOf m ks text
 handed-back a = sym (a .part-is) ∙ a .post .0 ∙ (λ i. commitOf (a .mode i) (a .keys i) (a .of-text i))
 
-pub answered : {m : ℕ} {ks text : List ℕ} {r : CommitAnswer} → QuestionAllows m ks text r → r ≡ commitAnswer m ks text
-answered a = a .post ∙ (λ i. commitAnswer (a .mode i) (a .keys i) (a .of-text i))
+pub asked : {m : ℕ} {ks text : List ℕ} {r : CommitAnswer} → QuestionAllows m ks text r → r ≡ commitAnswer m ks text
+asked a = a .post ∙ (λ i. commitAnswer (a .mode i) (a .keys i) (a .of-text i))
 
 module _ {m : ℕ} {text before : List ℕ} {r : WriteAnswer} {after : List ℕ} (a : SpellAllows m text before r after) where
   pub spelled-answer : r ≡ spellOf m text before .answer
@@ -51,3 +55,17 @@ module _ {m : ℕ} {text before : List ℕ} {r : WriteAnswer} {after : List ℕ}
 
   pub spelled-output : after ≡ spellOf m text before .output
   spelled-output = sym (a .at-exit) ∙ a .post .1 ∙ (λ i. spellOf (a .mode i) (a .of-text i) (a .at-entry i) .output)
+
+module _ {p : Program} {line before : List ℕ} {r : WriteAnswer} {after : List ℕ} (a : LineAllows p line before r after) where
+  pub line-answer : r ≡ lineAnswer p line before .answer
+  line-answer = a .post .0 ∙ (λ i. lineAnswer (a .of-program i) (a .of-line i) (a .at-entry i) .answer)
+
+  pub line-output : after ≡ lineAnswer p line before .output
+  line-output = sym (a .at-exit) ∙ a .post .1 ∙ (λ i. lineAnswer (a .of-program i) (a .of-line i) (a .at-entry i) .output)
+
+module _ {before after : Session} {k : ℕ} {r : StepAnswer} (a : KeyAllows before k r after) where
+  pub key-answer : r ≡ stepOf (before .word) k .answer
+  key-answer = a .post .0 ∙ (λ i. stepOf (a .at-entry i .word) (a .key i) .answer)
+
+  pub key-session : after ≡ record { word = stepOf (before .word) k .word }
+  key-session = sym (a .at-exit) ∙ a .post .1 ∙ (λ i. record { word = stepOf (a .at-entry i .word) (a .key i) .word })

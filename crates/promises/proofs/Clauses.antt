@@ -30,6 +30,10 @@ use Rattle.commit.proofs.answer as answer
 use Rattle.commit.proofs.answer.Reads as answer-reads
 use Rattle.speller.proofs.spell as spell
 use Rattle.speller.proofs.spell.Reads as spell-reads
+use Rattle.lines.proofs.answer_line as answer-line
+use Rattle.lines.proofs.answer_line.Reads as answer-line-reads
+use Rattle.session.proofs.type_key as type-key
+use Rattle.session.proofs.One.{KeyPost, type-key-says}
 
 module _ {M : Type 1} (𝓤 : URA M) (H : Heap 𝓤) (A : Atoms 𝓤) (mem : Memory → SProp 𝓤) (run : Routine → Fun 𝓤) where
   pub step-clause : (κs : Lfts 0) (a : Args step.signature κs) (r : Res step.signature κs) (e : AtExit step.ended κs) → step.clauses 𝓤 H A mem run κs a .ensures tt r e ≡ fact 𝓤 (step-reads.Post κs a r e)
@@ -61,3 +65,9 @@ module _ {M : Type 1} (𝓤 : URA M) (H : Heap 𝓤) (A : Atoms 𝓤) (mem : Mem
 
   pub spell-clause : (κs : Lfts 2) (a : Args spell.signature κs) (r : Res spell.signature κs) (e : AtExit spell.ended κs) → spell.clauses 𝓤 H A mem run κs a .ensures tt r e ≡ fact 𝓤 (spell-reads.Post κs a r e)
   spell-clause κs a r e = refl
+
+  pub answer-line-clause : (κs : Lfts 2) (a : Args answer-line.signature κs) (r : Res answer-line.signature κs) (e : AtExit answer-line.ended κs) → answer-line.clauses 𝓤 H A mem run κs a .ensures tt r e ≡ fact 𝓤 (answer-line-reads.Post κs a r e)
+  answer-line-clause κs a r e = refl
+
+  pub type-key-clause : (κs : Lfts 1) (a : Args type-key.signature κs) (r : Res type-key.signature κs) (e : AtExit type-key.ended κs) → type-key.clauses 𝓤 H A mem run κs a .ensures tt r e ≡ fact 𝓤 (KeyPost κs a r e)
+  type-key-clause κs a r e = type-key-says 𝓤 H A mem run κs a r e

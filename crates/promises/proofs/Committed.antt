@@ -11,8 +11,10 @@ use Rattle.rules.proofs.NotRefused.{shows, typed-in-range, typed-word}
 use Rattle.rules.proofs.StaysInRange.{read-front}
 use Rattle.rules.specs.HandedBack.{HandedBack}
 use Rattle.rules.proofs.Commits.{shown-is-granted, keys-or-kept-text}
+use Rattle.rules.specs.AnswersInNumbers.{writeSays, commitSays}
+use Rattle.promises.proofs.FromNumbers.{granted-as}
 use Rattle.promises.specs.Committed.{ShownIsGranted, KeptOrKeys}
-use Rattle.promises.proofs.AsDefined.{typed-as, shown-answer, shown-output, handed-back, answered}
+use Rattle.promises.proofs.AsDefined.{typed-as, shown-answer, shown-output, handed-back, asked}
 use Rattle.promises.proofs.EachKey.{accepted}
 
 pub granted : ShownIsGranted
@@ -25,9 +27,9 @@ granted m ks ok r t before after a room s =
     let f = shows (r .word) range before room in
     let front : take (length text) after ≡ text = ap (take (length text)) (shown-output s ∙ ap (λ (x : Written). x .output) f) ∙ read-front text before (length text) refl in (
       length text,
-      shown-answer s ∙ ap (λ (x : Written). x .answer) f,
-      λ c q. answered q ∙ ap (commitAnswer m ks) (front ∙ ap (λ (z : Typed). shown (z .state)) word-is) ∙ shown-is-granted m ks (ok .mode) (ok .few) (ok .keys),
+      ap writeSays (shown-answer s ∙ ap (λ (x : Written). x .answer) f),
+      λ c q. ap commitSays (asked q ∙ ap (commitAnswer m ks) (front ∙ ap (λ (z : Typed). shown (z .state)) word-is) ∙ shown-is-granted m ks (ok .mode) (ok .few) (ok .keys)),
     )
 
 pub kept-or-keys : KeptOrKeys
-kept-or-keys m ks text part q c = subst (HandedBack m ks) (sym (handed-back c)) (keys-or-kept-text m ks text (sym (answered q)))
+kept-or-keys m ks text part r q e c = subst (HandedBack m ks) (sym (handed-back c)) (keys-or-kept-text m ks text (sym (asked q) ∙ granted-as r e))

@@ -1,90 +1,119 @@
 -- The demands hold: `Demands` of specs/Demands.antt, by the laws on refusals and definitions, and the other files here.
-use mathlib.Core.Path.{_≡_, refl, sym, ap, subst, _∙_}
-use mathlib.Core.Bool.{Bool, true, false, not}
+use mathlib.Core.Path.{_≡_, refl, sym, ap, _∙_}
 use mathlib.Core.List.{List, [], _∷_}
 use mathlib.Core.Option.{Option, none, some}
 use mathlib.Core.Logic.{_↔_}
 use Prim.Native.Nat.{ℕ}
-use native.Mathlib.Omega.{arith}
-use lib.Dec.{T}
+use lib.ListN.{length, drop}
 use denote.Ref.{RefT, ptr}
 use Rattle.rules.specs.Speller.{read}
 use Rattle.rules.specs.CodePoints.{shown}
-use Rattle.rules.specs.TheWord.{wordOf}
-use Rattle.rules.specs.Refusals.{Call, TableRow, table, firstRow, refusal}
-use Rattle.rules.specs.WhatComesBack.{startCall, startOr, start, stepCall, stepOr, step, typeCall, typeOr, typeAll, Written, writeOr, showCall, show, wordCall, placeOr, placeAnswer, verdictOr, verdictAnswer, decisionOr, decisionAnswer, commitCall, commitOr, commit, grantedOr, commitAnswer, keysOf, spellCall, spell}
-use Rattle.rules.specs.AnswersInNumbers.{Says, refusing, startSays, stepSays, typeSays, writeSays, placeSays, verdictSays, decisionSays, commitSays}
+use Rattle.rules.specs.TheWord.{wordOf, atFront}
+use Rattle.rules.specs.Decision.{decision, handedBack}
+use Rattle.rules.specs.Refusals.{Call, table, refusal, FirstOf, NoneHolds}
+use Rattle.rules.specs.WhatComesBack.{startCall, startOr, start, stepCall, stepOr, step, typed, typeCall, typeOr, typeAll, writeOr, showCall, show, wordCall, placeOr, placeAnswer, verdictOr, verdictAnswer, decisionOr, decisionAnswer, commitCall, commitOr, commit, grantedOr, commitAnswer, keysOf, spellCall, spell}
+use Rattle.rules.specs.AnswersInNumbers.{Says, answered, refusing, startSays, stepSays, typeSays, writeSays, placeSays, verdictSays, decisionSays, commitSays}
+use Rattle.rules.specs.Drill.{modeOf, lineOr, answerLine}
+use Rattle.rules.specs.SpellProgram.{textCall, spelledOr, spellLine}
+use Rattle.rules.specs.declared.Word.{Word}
 use Rattle.rules.specs.declared.Refusal.{Refusal}
-use Rattle.rules.specs.declared.Start.{Start}
-use Rattle.rules.specs.declared.Step.{Step}
-use Rattle.rules.specs.declared.TypeAll.{TypeAll}
-use Rattle.rules.proofs.Tests.{is-true, is-false}
-use Rattle.commit.specs.Rulings.{rulingOr, rulingOf, handedFrom}
+use Rattle.rules.specs.declared.WriteAnswer.{WriteAnswer}
+use Rattle.rules.specs.declared.Decision.{Decision}
+use Rattle.rules.specs.declared.Decision.the-variants.{Keep, Restore}
+use Rattle.rules.proofs.Refused.{one-or-the-other, refusal-given, refusal-none, write-exactly, start-exactly, step-exactly, type-exactly, place-exactly, verdict-exactly, decision-exactly, commit-exactly}
+use Rattle.commit.specs.Rulings.{decided as rulingFrom, rulingOr, rulingOf, handedFrom}
 use Rattle.commit.specs.declared.Ruling.{Ruling}
-use Rattle.commit.specs.declared.Ruling.the-variants.{Keep, Restore}
-use Rattle.commit.specs.declared.Ruling.the-variants.{Refused as RulingRefused}
-use Rattle.rules.proofs.Refused.{Given, refusal-given, start-exactly, step-exactly, type-exactly, show-exactly, spell-exactly, place-exactly, verdict-exactly, decision-exactly, commit-exactly}
+use Rattle.commit.specs.declared.Ruling.the-variants.{Keep as RulingKeep, Restore as RulingRestore, Refused as RulingRefused}
+use Rattle.output.specs.Front.{put}
+use Rattle.lines.specs.Programs.{lineAnswer}
+use Rattle.session.specs.declared.Session.{Session}
 use Rattle.promises.specs.Contracts.{CommitAllows}
-use Rattle.promises.specs.Demands.{FirstOf, this-row, later-row, Exactly, Demand1, Demand2, Tight, Possible, Demands}
-use Rattle.promises.proofs.AsDefined.{started, stepped, typed-as, shown-answer, shown-output, placed, judged, decided, handed-back, answered, spelled-answer, spelled-output}
+use Rattle.promises.specs.Exactly.{Exactly, lineCall}
+use Rattle.promises.specs.Demands.{Demand1, Demand2, Tight, Possible, Demands}
+use Rattle.promises.proofs.AsDefined.{started, stepped, typed-as, shown-answer, shown-output, placed, judged, decided, handed-back, asked, spelled-answer, spelled-output, line-answer, line-output, key-answer, key-session}
 use Rattle.promises.proofs.EachKey.{every-prefix, after-each-key, after-the-list, at-each-key}
 use Rattle.promises.proofs.RoundTrip.{spelled-back, lists-differ, only-syllables}
 use Rattle.promises.proofs.TwoOrders.{first-half}
 use Rattle.promises.proofs.EachSyllable.{second-half}
 use Rattle.promises.proofs.Committed.{granted, kept-or-keys}
 
--- the first row
-first-of : (rs : List TableRow) (x : Refusal) → firstRow rs ≡ some x → FirstOf rs x
-first-of [] x e = let z : _≡_ {A = ℕ} 0 1 = cc in absurd (omega arith)
-first-of (r ∷ rs) x e = go (r .when) refl (first-of rs x) e
-  where
-    go : (b : Bool) → r .when ≡ b → (firstRow rs ≡ some x → FirstOf rs x) → elim b [ true ↦ some (record { number = r .number; value = r .returned }) | false ↦ firstRow rs ] ≡ some x → FirstOf (r ∷ rs) x
-    go true d more e = let f : record { number = r .number; value = r .returned } ≡ x = cc in subst (FirstOf (r ∷ rs)) f (this-row (subst T (sym d) tt))
-    go false d more e = later-row (subst (λ (b : Bool). T (not b)) (sym d) tt) (more e)
-
-is-first : {rs : List TableRow} {x : Refusal} → FirstOf rs x → firstRow rs ≡ some x
-is-first (this-row {r = r} t) = rw (is-true (r .when) t)
-is-first (later-row {r = r} t f) = rw (is-false (r .when) t) (is-first f)
-
-first-row : (c : Call) (x : Refusal) → refusal c ≡ some x ↔ FirstOf (table c) x
-unfolding refusal
-first-row c x = (first-of (table c) x, is-first)
-
 -- what came back is a definition over the refusal of the call, and says that refusal in numbers
 module _ {R : Type 0} (c : Call) (came-back : R) (over : Option Refusal → R) (e : came-back ≡ over (refusal c)) (says : R → Says)
-    (so : (x : Refusal) → says (over (some x)) ≡ refusing x) (given : (x : Refusal) → says (over (refusal c)) ≡ refusing x ↔ Given c x) where
+    (so : (x : Refusal) → says (over (some x)) ≡ refusing x) (given : (x : Refusal) → says (over (refusal c)) ≡ refusing x ↔ FirstOf (table c) x) where
   exactly : Exactly c came-back (over none) (λ x. over (some x))
-  exactly = record { answers = λ n. e ∙ ap over n; refuses = λ x n. e ∙ ap over n; only-then = λ x n. refusal-given c x .1 (given x .0 (ap says (sym e ∙ n) ∙ so x)) }
+  exactly = record { answers = λ n. e ∙ ap over (refusal-none c .1 n); refuses = λ x f. e ∙ ap over (refusal-given c x .1 f); only-then = λ x d. given x .0 (ap says (sym e ∙ d) ∙ so x) }
 
--- a refused commit's part begins where the keys do
-refused-ruling : (m : ℕ) (ks text : List ℕ) (x : Refusal) → refusal (commitCall m ks text) ≡ some x → rulingOf m ks text ≡ RulingRefused x
-unfolding rulingOf
-refused-ruling m ks text x n = ap (λ (o : Option Refusal). rulingOr o m ks text) n
+-- the numbers beside a word, a session or an output
+abbrev saysOf : {R : Type 0} → Says × R → Says
+saysOf p = p .0
 
-refused-from : {m : ℕ} {ks text part : List ℕ} (a : CommitAllows m ks text part) (x : Refusal) → refusal (commitCall m ks text) ≡ some x → ptr (a .result) ≡ ptr (a .args .1 .0)
-refused-from {m} {ks} {text} a x n =
-    a .post .1 ∙ ap (λ (r : Ruling). handedFrom r (ptr (a .args .1 .0)) (ptr (a .args .1 .1 .0))) ((λ i. rulingOf (a .mode i) (a .keys i) (a .of-text i)) ∙ refused-ruling m ks text x n)
+-- an entry with an output: over the refusal of its call it is what is written of a text
+module _ (c : Call) (text before after : List ℕ) (r : WriteAnswer) (answer : r ≡ writeOr (refusal c) text before .answer) (output : after ≡ writeOr (refusal c) text before .output) where
+  exactly-written : Exactly {R = Says × List ℕ} c (writeSays r, after) (answered (length text ∷ []), atFront text before) (λ x. (refusing x, before))
+  exactly-written =
+      exactly {R = Says × List ℕ} c (writeSays r, after) (λ o. (writeSays (writeOr o text before .answer), writeOr o text before .output)) (λ i. (writeSays (answer i), output i)) saysOf (λ x. refl) (write-exactly c text before)
+
+-- what commit hands back, and where it begins
+module _ {m : ℕ} {ks text part : List ℕ} (a : CommitAllows m ks text part) where
+  begins : (o : Option Refusal) → refusal (commitCall m ks text) ≡ o → ptr (a .result) ≡ handedFrom (rulingOr o m ks text) (ptr (a .args .1 .0)) (ptr (a .args .1 .1 .0))
+  unfolding rulingOf
+  begins o n =
+      a .post .1 ∙
+      ap (λ (r : Ruling). handedFrom r (ptr (a .args .1 .0)) (ptr (a .args .1 .1 .0))) ((λ i. rulingOf (a .mode i) (a .keys i) (a .of-text i)) ∙ ap (λ (p : Option Refusal). rulingOr p m ks text) n)
+
+  handed : (o : Option Refusal) → refusal (commitCall m ks text) ≡ o → part ≡ commitOr o m ks text
+  unfolding commit
+  handed o n = handed-back a ∙ ap (λ (p : Option Refusal). commitOr p m ks text) n
+
+  granted-as-decided : (d : Decision) → NoneHolds (table (commitCall m ks text)) → decision (typed m ks) ≡ d →
+      (part ≡ handedBack d text ks) × (ptr (a .result) ≡ handedFrom (rulingFrom d text) (ptr (a .args .1 .0)) (ptr (a .args .1 .1 .0)))
+  granted-as-decided d n e =
+      let none-given = refusal-none (commitCall m ks text) .1 n in (
+        handed none none-given ∙ ap (λ (x : Decision). handedBack x text ks) e,
+        begins none none-given ∙ ap (λ (x : Decision). handedFrom (rulingFrom x text) (ptr (a .args .1 .0)) (ptr (a .args .1 .1 .0))) e,
+      )
+
+-- a line's answer, by the table
+drill-line : (line : List ℕ) (o : Option Refusal) → refusal (typeCall (modeOf line) (drop 2 line)) ≡ o → answerLine line ≡ lineOr o (modeOf line) (drop 2 line)
+unfolding answerLine
+drill-line line o e = ap (λ (p : Option Refusal). lineOr p (modeOf line) (drop 2 line)) e
+
+spell-line : (line : List ℕ) (o : Option Refusal) → refusal (textCall (modeOf line) (drop 2 line)) ≡ o → spellLine line ≡ spelledOr o (modeOf line) (drop 2 line)
+unfolding spellLine
+spell-line line o e = ap (λ (p : Option Refusal). spelledOr p (modeOf line) (drop 2 line)) e
 
 demand-1 : Demand1
-unfolding step typeAll show placeAnswer verdictAnswer decisionAnswer commitAnswer commit spell
+unfolding step typeAll show placeAnswer verdictAnswer decisionAnswer commitAnswer spell put
 demand-1 =
     record {
-      by-the-table = first-row;
-      starting = λ m r a. exactly (startCall m) r (λ o. startOr o m) (started a) (λ (x : Start). startSays (x .answer)) (λ x. refl) (start-exactly m);
-      stepping = λ w k r a. exactly (stepCall w k) r (λ o. stepOr o w k) (stepped a) (λ (x : Step). stepSays (x .answer)) (λ x. refl) (step-exactly w k);
-      typing = λ m ks r a. exactly (typeCall m ks) r (λ o. typeOr o m ks) (typed-as a) (λ (x : TypeAll). typeSays (x .answer)) (λ x. refl) (type-exactly m ks);
-      showing = λ w before after r a.
-          exactly (showCall w before) (record { answer = r; output = after }) (λ o. writeOr o (shown (wordOf w .state)) before) (λ i. record { answer = shown-answer a i; output = shown-output a i })
-          (λ (x : Written). writeSays (x .answer)) (λ x. refl) (show-exactly w before);
-      spelling = λ m text before after r a.
-          exactly (spellCall m text before) (record { answer = r; output = after }) (λ o. writeOr o (keysOf m (read text)) before) (λ i. record { answer = spelled-answer a i; output = spelled-output a i })
-          (λ (x : Written). writeSays (x .answer)) (λ x. refl) (spell-exactly m text before);
-      placing = λ w r a. exactly (wordCall w) r (λ o. placeOr o w) (placed a) placeSays (λ x. refl) (place-exactly w);
-      judging = λ w r a. exactly (wordCall w) r (λ o. verdictOr o w) (judged a) verdictSays (λ x. refl) (verdict-exactly w);
-      deciding = λ w r a. exactly (wordCall w) r (λ o. decisionOr o w) (decided a) decisionSays (λ x. refl) (decision-exactly w);
-      asking = λ m ks text r a. exactly (commitCall m ks text) r grantedOr (answered a) commitSays (λ x. refl) (commit-exactly m ks text);
-      committing = λ m ks text part a n. handed-back a ∙ ap (λ (o : Option Refusal). commitOr o m ks text) n;
-      not-committing = λ m ks text part x a n. (handed-back a ∙ ap (λ (o : Option Refusal). commitOr o m ks text) n, refused-from a x n);
+      one-or-the-other = one-or-the-other;
+      starting = λ m r a.
+          exactly {R = Says × Word} (startCall m) (startSays (r .answer), r .word) (λ o. (startSays (startOr o m .answer), startOr o m .word)) (λ i. (startSays (started a i .answer), started a i .word)) saysOf (λ x. refl)
+          (start-exactly m);
+      stepping = λ w k r a.
+          exactly {R = Says × Word} (stepCall w k) (stepSays (r .answer), r .word) (λ o. (stepSays (stepOr o w k .answer), stepOr o w k .word)) (λ i. (stepSays (stepped a i .answer), stepped a i .word)) saysOf (λ x. refl)
+          (step-exactly w k);
+      typing = λ m ks r a.
+          exactly {R = Says × Word} (typeCall m ks) (typeSays (r .answer), r .word) (λ o. (typeSays (typeOr o m ks .answer), typeOr o m ks .word)) (λ i. (typeSays (typed-as a i .answer), typed-as a i .word)) saysOf (λ x. refl)
+          (type-exactly m ks);
+      showing = λ w before after r a. exactly-written (showCall w before) (shown (wordOf w .state)) before after r (shown-answer a) (shown-output a);
+      spelling = λ m text before after r a. exactly-written (spellCall m text before) (keysOf m (read text)) before after r (spelled-answer a) (spelled-output a);
+      placing = λ w r a. exactly (wordCall w) (placeSays r) (λ o. placeSays (placeOr o w)) (ap placeSays (placed a)) (λ (s : Says). s) (λ x. refl) (place-exactly w);
+      judging = λ w r a. exactly (wordCall w) (verdictSays r) (λ o. verdictSays (verdictOr o w)) (ap verdictSays (judged a)) (λ (s : Says). s) (λ x. refl) (verdict-exactly w);
+      deciding = λ w r a. exactly (wordCall w) (decisionSays r) (λ o. decisionSays (decisionOr o w)) (ap decisionSays (decided a)) (λ (s : Says). s) (λ x. refl) (decision-exactly w);
+      asking = λ m ks text r a. exactly (commitCall m ks text) (commitSays r) (λ o. commitSays (grantedOr o)) (ap commitSays (asked a)) (λ (s : Says). s) (λ x. refl) (commit-exactly m ks text);
+      keeping = λ m ks text part a n e. granted-as-decided a Keep n e;
+      restoring = λ m ks text part a n e. granted-as-decided a Restore n e;
+      not-committing = λ m ks text part x a f. let e = refusal-given (commitCall m ks text) x .1 f in (handed a (some x) e, begins a (some x) e);
+      drill-answers = λ line n. drill-line line none (refusal-none (typeCall (modeOf line) (drop 2 line)) .1 n);
+      drill-refuses = λ line x f. drill-line line (some x) (refusal-given (typeCall (modeOf line) (drop 2 line)) x .1 f);
+      spell-answers = λ line n. spell-line line none (refusal-none (textCall (modeOf line) (drop 2 line)) .1 n);
+      spell-refuses = λ line x f. spell-line line (some x) (refusal-given (textCall (modeOf line) (drop 2 line)) x .1 f);
+      drilling = λ line before after r a. exactly-written (lineCall (answerLine line) before) (answerLine line) before after r (line-answer a) (line-output a);
+      spelling-lines = λ line before after r a. exactly-written (lineCall (spellLine line) before) (spellLine line) before after r (line-answer a) (line-output a);
+      in-session = λ before after k r a.
+          exactly {R = Says × Session} (stepCall (before .word) k) (stepSays r, after) (λ o. (stepSays (stepOr o (before .word) k .answer), record { word = stepOr o (before .word) k .word }))
+          (λ i. (stepSays (key-answer a i), key-session a i)) saysOf (λ x. refl) (step-exactly (before .word) k);
     }
 
 demand-2 : Demand2
@@ -112,14 +141,16 @@ tight =
       placing = λ w r r′ a b. placed a ∙ sym (placed b);
       judging = λ w r r′ a b. judged a ∙ sym (judged b);
       deciding = λ w r r′ a b. decided a ∙ sym (decided b);
-      asking = λ m ks text r r′ a b. answered a ∙ sym (answered b);
+      asking = λ m ks text r r′ a b. asked a ∙ sym (asked b);
       committing = λ m ks text part part′ a b. handed-back a ∙ sym (handed-back b);
+      answering-a-line = λ p line before after after′ r r′ a b. (line-answer a ∙ sym (line-answer b), line-output a ∙ sym (line-output b));
+      in-session = λ before after after′ k r r′ a b. (key-answer a ∙ sym (key-answer b), key-session a ∙ sym (key-session b));
     }
 
 -- where both slices begin at one place, so does the part
 at-one-place : (r : Ruling) (p : ℕ × ℕ) → p ≡ handedFrom r p p
-at-one-place (Keep n) p = refl
-at-one-place Restore p = refl
+at-one-place (RulingKeep n) p = refl
+at-one-place RulingRestore p = refl
 at-one-place (RulingRefused x) p = refl
 
 -- a lent slice that holds these bytes, at some place
@@ -170,6 +201,33 @@ possible =
           of-text = refl;
           part-is = refl;
           post = (refl, at-one-place (rulingOf m ks text) (0, 0));
+        },
+      );
+      answering-a-line = λ p line before. (
+        lineAnswer p line before .answer,
+        lineAnswer p line before .output,
+        record {
+          lifetimes = ([], ([], tt));
+          args = (p, (holds line, (holds before, tt)));
+          exit = (p, (holds line, (holds (lineAnswer p line before .output), tt)));
+          of-program = refl;
+          of-line = refl;
+          at-entry = refl;
+          at-exit = refl;
+          post = (refl, refl);
+        },
+      );
+      in-session = λ before k. (
+        step (before .word) k .answer,
+        record { word = step (before .word) k .word },
+        record {
+          lifetimes = ([], tt);
+          args = (record { ptr = (0, 0); name = 0; now = before }, (k, tt));
+          exit = (record { ptr = (0, 0); name = 0; now = record { word = step (before .word) k .word } }, (k, tt));
+          at-entry = refl;
+          key = refl;
+          at-exit = refl;
+          post = (refl, refl);
         },
       );
     }

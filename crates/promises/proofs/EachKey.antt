@@ -19,7 +19,6 @@ use Rattle.rules.specs.declared.Word.{Word}
 use Rattle.rules.specs.declared.Start.{Start}
 use Rattle.rules.specs.declared.StartAnswer.the-variants.{Started}
 use Rattle.rules.specs.declared.Step.{Step}
-use Rattle.rules.specs.declared.StepAnswer.the-variants.{Did}
 use Rattle.rules.specs.declared.TypeAll.{TypeAll}
 use Rattle.rules.specs.declared.TypeAnswer.the-variants.{AllTyped}
 use Rattle.rules.specs.declared.PlaceAnswer.the-variants.{Found}
@@ -30,6 +29,7 @@ use Rattle.rules.proofs.Records.{accepted as not-refused}
 use Rattle.rules.proofs.Typing.{kept-mode, kept-keys, stepping, typing-is-stepping}
 use Rattle.rules.proofs.NotRefused.{finds, judges, decides, typed-in-range, typed-word}
 use Rattle.promises.specs.Contracts.{StepAllows}
+use Rattle.rules.specs.AnswersInNumbers.{answered, outcomeNumbers, startSays, stepSays, typeSays, writeSays, placeSays, verdictSays, decisionSays}
 use Rattle.promises.specs.EachKey.{Stepped, no-key, key-and-more, AcceptedKeys, EveryPrefix, AsRuled, AfterEachKey, AfterTheList, AtEachKey}
 use Rattle.promises.proofs.AsDefined.{started, stepped, typed-as, shown-answer, shown-output, placed, judged, decided}
 use Rattle.promises.proofs.Alike.{writes-state}
@@ -61,12 +61,12 @@ module _ (m : ℕ) (ks : List ℕ) (ok : AcceptedKeys m ks) where
   all-started = let e = ap not (is-true (isMode m) (ok .mode)) in simp e
 
   one-more : (v : Word) → v ≡ holding (newWord m) (typed m ks) → T (not (outOfRange v)) → wordOf v ≡ typed m ks → (k : ℕ) (r : Step) → length ks + 1 ≤ mostKeys → T (isKey m k) → StepAllows v k r →
-      r .answer ≡ Did (outcomeOf (keyDoes (typed m ks) k))
+      stepSays (r .answer) ≡ answered (outcomeNumbers (outcomeOf (keyDoes (typed m ks) k)))
   one-more v e range word-is k r room key a =
       let many : v .typed ≡ 0 + length ks = ap (λ (w : Word). w .typed) e ∙ kept-keys (wordOf (newWord m)) ks in
       let mode-is : v .mode ≡ m = ap (λ (w : Word). w .mode) e ∙ kept-mode (wordOf (newWord m)) ks in
       let f = not-refused v k range (omega arith) (subst (λ (n : ℕ). T (isKey n k)) (sym mode-is) key) in
-      ap (λ (x : Step). x .answer) (stepped a ∙ f) ∙ ap (λ (z : Typed). Did (outcomeOf (keyDoes z k))) word-is
+      ap (λ (x : Step). stepSays (x .answer)) (stepped a ∙ f) ∙ ap (λ (z : Typed). answered (outcomeNumbers (outcomeOf (keyDoes z k)))) word-is
 
   -- the word that typing them gives, and what is answered of it
   ruled : (v : Word) → v ≡ holding (newWord m) (typed m ks) → AsRuled m ks v
@@ -81,10 +81,10 @@ module _ (m : ℕ) (ks : List ℕ) (ok : AcceptedKeys m ks) where
         holds = word-is;
         text = λ {before} room a.
             let f = writes-state v range (typed m ks .state) state-is before room in
-            (shown-answer a ∙ ap (λ (x : Written). x .answer) f, shown-output a ∙ ap (λ (x : Written). x .output) f);
-        place = λ a. placed a ∙ finds v range ∙ ap (λ (z : State). Found (tonePlace (z .letters) (z .tone))) state-is;
-        judgement = λ a. judged a ∙ judges v range ∙ ap (λ (z : State). Judged (verdict (z .letters) (z .tone))) state-is;
-        keep-or-restore = λ a. decided a ∙ decides v range ∙ ap (λ (z : Typed). Decided (decision z)) word-is;
+            (ap writeSays (shown-answer a ∙ ap (λ (x : Written). x .answer) f), shown-output a ∙ ap (λ (x : Written). x .output) f);
+        place = λ a. ap placeSays (placed a ∙ finds v range ∙ ap (λ (z : State). Found (tonePlace (z .letters) (z .tone))) state-is);
+        judgement = λ a. ap verdictSays (judged a ∙ judges v range ∙ ap (λ (z : State). Judged (verdict (z .letters) (z .tone))) state-is);
+        keep-or-restore = λ a. ap decisionSays (decided a ∙ decides v range ∙ ap (λ (z : Typed). Decided (decision z)) word-is);
         next = λ {k} {r} room key a. one-more v e in-range word-is k r room key a;
       }
 
@@ -92,12 +92,12 @@ pub after-each-key : AfterEachKey
 after-each-key m ks new v ok s p =
     let e = started s ∙ all-started m ks ok in
     let n : new .word ≡ newWord m = ap (λ (x : Start). x .word) e in
-    (ap (λ (x : Start). x .answer) e, ruled m ks ok v (sym (through p) ∙ ap (λ (w : Word). stepping w ks) n ∙ typing-is-stepping m ks (ok .mode) (ok .few) (ok .keys)))
+    (ap (λ (x : Start). startSays (x .answer)) e, ruled m ks ok v (sym (through p) ∙ ap (λ (w : Word). stepping w ks) n ∙ typing-is-stepping m ks (ok .mode) (ok .few) (ok .keys)))
 
 pub after-the-list : AfterTheList
 after-the-list m ks r ok t =
     let e = typed-as t ∙ all-typed m ks ok in
-    (ap (λ (x : TypeAll). x .answer) e, ruled m ks ok (r .word) (ap (λ (x : TypeAll). x .word) e))
+    (ap (λ (x : TypeAll). typeSays (x .answer)) e, ruled m ks ok (r .word) (ap (λ (x : TypeAll). x .word) e))
 
 pub at-each-key : AtEachKey
 at-each-key m ks new v r ok s p t =

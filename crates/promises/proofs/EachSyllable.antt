@@ -15,8 +15,10 @@ use Rattle.rules.specs.declared.VerdictAnswer.the-variants.{Judged}
 use Rattle.rules.specs.declared.DecisionAnswer.the-variants.{Decided}
 use Rattle.rules.specs.declared.Decision.{Decision}
 use Rattle.rules.proofs.NotRefused.{judges, decides, typed-in-range, typed-word}
-use Rattle.forms.specs.Syllables.{openWord, bareKeys, Gives}
+use Rattle.rules.specs.Syllables.{openWord, bareKeys}
+use Rattle.forms.specs.Spelling.{Gives}
 use Rattle.forms.proofs.AnyOrder.{any-order}
+use Rattle.rules.specs.AnswersInNumbers.{typeSays, writeSays, verdictSays, decisionSays}
 use Rattle.promises.specs.Contracts.{TypeAllows}
 use Rattle.promises.specs.EachSyllable.{IsSyllable, SecondHalf}
 use Rattle.promises.proofs.AsDefined.{typed-as, shown-answer, shown-output, judged, decided}
@@ -31,16 +33,16 @@ typed-gives m ks w t mode g r a =
     let range : outOfRange (r .word) ≡ false = ap (λ (x : TypeAll). outOfRange (x .word)) e ∙ typed-in-range m ks ok in
     let state-is : wordOf (r .word) .state ≡ openWord w t = ap (λ (z : Typed). z .state) word-is ∙ g .state in
     record {
-      answer = ap (λ (x : TypeAll). x .answer) e ∙ ok;
+      answer = ap typeSays (ap (λ (x : TypeAll). x .answer) e ∙ ok);
       state = state-is;
       text = λ {before} room p.
           let f = writes-state (r .word) range (openWord w t) state-is before room in
-          (shown-answer p ∙ ap (λ (x : Written). x .answer) f, shown-output p ∙ ap (λ (x : Written). x .output) f);
+          (ap writeSays (shown-answer p ∙ ap (λ (x : Written). x .answer) f), shown-output p ∙ ap (λ (x : Written). x .output) f);
       no-room = λ {before} short p.
           let f = no-room-for (r .word) range (openWord w t) state-is before short in
-          (shown-answer p ∙ ap (λ (x : Written). x .answer) f, shown-output p ∙ ap (λ (x : Written). x .output) f);
-      verdict = λ p. judged p ∙ judges (r .word) range ∙ ap (λ (z : Typed). Judged (verdict (z .state .letters) (z .state .tone))) word-is ∙ ap (λ (v : ℕ). Judged v) (g .verdict-0);
-      decision = λ p. decided p ∙ decides (r .word) range ∙ ap (λ (z : Typed). Decided (decision z)) word-is ∙ ap (λ (d : Decision). Decided d) (g .kept);
+          (ap writeSays (shown-answer p ∙ ap (λ (x : Written). x .answer) f), shown-output p ∙ ap (λ (x : Written). x .output) f);
+      verdict = λ p. ap verdictSays (judged p ∙ judges (r .word) range ∙ ap (λ (z : Typed). Judged (verdict (z .state .letters) (z .state .tone))) word-is ∙ ap (λ (v : ℕ). Judged v) (g .verdict-0));
+      decision = λ p. ap decisionSays (decided p ∙ decides (r .word) range ∙ ap (λ (z : Typed). Decided (decision z)) word-is ∙ ap (λ (d : Decision). Decided d) (g .kept));
     }
 
 pub second-half : SecondHalf

@@ -1,3 +1,4 @@
+pub mod FromNumbers
 pub mod AsDefined
 pub mod Alike
 pub mod TwoOrders

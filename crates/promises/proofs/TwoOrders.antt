@@ -18,6 +18,8 @@ use Rattle.rules.proofs.Commute.{Differ}
 use Rattle.rules.proofs.StaysInRange.{Whole, step-in-range}
 use Rattle.rules.proofs.NotRefused.{shows, finds, judges, decides}
 use Rattle.rules.proofs.RecordOrders.{record-orders}
+use Rattle.rules.specs.AnswersInNumbers.{stepSays, writeSays, placeSays, verdictSays, decisionSays}
+use Rattle.promises.proofs.FromNumbers.{acted-as}
 use Rattle.promises.specs.TwoOrders.{differ, OpenWithRoom, withKeys, FirstHalf}
 use Rattle.promises.proofs.AsDefined.{stepped, shown-answer, shown-output, placed, judged, decided}
 use Rattle.promises.proofs.Alike.{same-text, same-place, same-verdict, same-decision}
@@ -60,30 +62,30 @@ first-half w k m a b wk wm km mk o differing k-typed k-acted m-typed m-acted m-a
     let x : km ≡ step (step w k .word) m = stepped m-after ∙ ap (λ (s : Step). step (s .word) m) e in
     let y : mk ≡ step (step w m .word) k = stepped k-after ∙ ap (λ (s : Step). step (s .word) k) f in
     let same = record-orders w (whole o) (o .range) (o .room) k m (o .open-word) (families (role (w .mode) k) (role (w .mode) m) differing)
-    (sym (ap (λ (s : Step). s .answer) e) ∙ k-acted) (sym (ap (λ (s : Step). s .answer) f) ∙ m-acted) in
+    (sym (ap (λ (s : Step). s .answer) e) ∙ acted-as (wk .answer) a k-acted) (sym (ap (λ (s : Step). s .answer) f) ∙ acted-as (wm .answer) b m-acted) in
     let keys = ap (λ (s : Step). s .word .keys) x ∙ ap (λ (z : Word). z .keys) (same .equal) in
     let words : km .word ≡ withKeys (mk .word) (km .word .keys) = ap (λ (s : Step). s .word) x ∙ same .equal ∙ (λ i. withKeys (sym y i .word) (sym keys i)) in
     let km-range : outOfRange (km .word) ≡ false = ap (λ (s : Step). outOfRange (s .word)) x ∙ in-range-after w o k m in
     let mk-range : outOfRange (mk .word) ≡ false = ap (λ (s : Step). outOfRange (s .word)) y ∙ in-range-after w o m k in
     let states = ap (λ (z : Word). wordOf z .state) words in
     record {
-      m-acts = ap (λ (s : Step). s .answer) x ∙ same .second-acts;
-      k-acts = ap (λ (s : Step). s .answer) y ∙ same .first-acts;
+      m-acts = ap stepSays (ap (λ (s : Step). s .answer) x ∙ same .second-acts);
+      k-acts = ap stepSays (ap (λ (s : Step). s .answer) y ∙ same .first-acts);
       words = words;
       k-then-m = keys;
       m-then-k = ap (λ (s : Step). s .word .keys) y ∙ same .keys;
       text = λ p q. (
-        shown-answer p ∙ ap (λ (z : Written). z .answer) (same-text (km .word) (mk .word) km-range mk-range states _) ∙ sym (shown-answer q),
+        ap writeSays (shown-answer p ∙ ap (λ (z : Written). z .answer) (same-text (km .word) (mk .word) km-range mk-range states _) ∙ sym (shown-answer q)),
         shown-output p ∙ ap (λ (z : Written). z .output) (same-text (km .word) (mk .word) km-range mk-range states _) ∙ sym (shown-output q),
       );
       text-written = λ {out} room p.
           let f = shows (km .word) km-range out room in
-          (shown-answer p ∙ ap (λ (z : Written). z .answer) f, shown-output p ∙ ap (λ (z : Written). z .output) f);
-      place = λ p q. (_, placed p ∙ finds (km .word) km-range, placed q ∙ sym (same-place (km .word) (mk .word) km-range mk-range states) ∙ finds (km .word) km-range);
-      verdict = λ p q. (_, judged p ∙ judges (km .word) km-range, judged q ∙ sym (same-verdict (km .word) (mk .word) km-range mk-range states) ∙ judges (km .word) km-range);
+          (ap writeSays (shown-answer p ∙ ap (λ (z : Written). z .answer) f), shown-output p ∙ ap (λ (z : Written). z .output) f);
+      place = λ p q. (_, ap placeSays (placed p ∙ finds (km .word) km-range), ap placeSays (placed q ∙ sym (same-place (km .word) (mk .word) km-range mk-range states) ∙ finds (km .word) km-range));
+      verdict = λ p q. (_, ap verdictSays (judged p ∙ judges (km .word) km-range), ap verdictSays (judged q ∙ sym (same-verdict (km .word) (mk .word) km-range mk-range states) ∙ judges (km .word) km-range));
       decision = λ p q. (
         _,
-        decided p ∙ decides (km .word) km-range,
-        decided q ∙ sym (same-decision (km .word) (mk .word) km-range mk-range states (ap (λ (z : Word). decision (wordOf z)) words ∙ decided-alike (mk .word) (km .word .keys))) ∙ decides (km .word) km-range,
+        ap decisionSays (decided p ∙ decides (km .word) km-range),
+        ap decisionSays (decided q ∙ sym (same-decision (km .word) (mk .word) km-range mk-range states (ap (λ (z : Word). decision (wordOf z)) words ∙ decided-alike (mk .word) (km .word .keys))) ∙ decides (km .word) km-range),
       );
     }

@@ -9,12 +9,15 @@ use denote.Triple.Clauses.{AtExit}
 use Rattle.rules.specs.declared.Word.{Word}
 use Rattle.rules.specs.declared.Start.{Start}
 use Rattle.rules.specs.declared.Step.{Step}
+use Rattle.rules.specs.declared.StepAnswer.{StepAnswer}
 use Rattle.rules.specs.declared.TypeAll.{TypeAll}
 use Rattle.rules.specs.declared.WriteAnswer.{WriteAnswer}
 use Rattle.rules.specs.declared.PlaceAnswer.{PlaceAnswer}
 use Rattle.rules.specs.declared.VerdictAnswer.{VerdictAnswer}
 use Rattle.rules.specs.declared.DecisionAnswer.{DecisionAnswer}
 use Rattle.rules.specs.declared.CommitAnswer.{CommitAnswer}
+use Rattle.lines.specs.declared.Program.{Program}
+use Rattle.session.specs.declared.Session.{Session}
 use Rattle.step.proofs.step as step
 use Rattle.step.proofs.step.Reads as step-reads
 use Rattle.word.proofs.start as start
@@ -35,6 +38,10 @@ use Rattle.commit.proofs.answer as answer
 use Rattle.commit.proofs.answer.Reads as answer-reads
 use Rattle.speller.proofs.spell as spell
 use Rattle.speller.proofs.spell.Reads as spell-reads
+use Rattle.lines.proofs.answer_line as answer-line
+use Rattle.lines.proofs.answer_line.Reads as answer-line-reads
+use Rattle.session.proofs.type_key as type-key
+use Rattle.session.proofs.One.{KeyPost}
 
 -- start: a mode
 pub record StartAllows (m : ℕ) (r : Start) : Type 0 where
@@ -114,3 +121,24 @@ pub record SpellAllows (m : ℕ) (text : List ℕ) (before : List ℕ) (r : Writ
   pub at-entry : now (args .1 .1 .0) ≡ before
   pub at-exit : now (exit .1 .1 .0) ≡ after
   pub post : spell-reads.Post lifetimes args r exit
+
+-- a line of a program: the line, and the output before and after
+pub record LineAllows (p : Program) (line before : List ℕ) (r : WriteAnswer) (after : List ℕ) : Type 0 where
+  pub lifetimes : Lfts 2
+  pub args : Args answer-line.signature lifetimes
+  pub exit : AtExit answer-line.ended lifetimes
+  pub of-program : args .0 ≡ p
+  pub of-line : now (args .1 .0) ≡ line
+  pub at-entry : now (args .1 .1 .0) ≡ before
+  pub at-exit : now (exit .1 .1 .0) ≡ after
+  pub post : answer-line-reads.Post lifetimes args r exit
+
+-- a key typed into a session: the session before and after. Its entry is proved by hand, so that the kit has no text of its contract; `KeyPost` is that text.
+pub record KeyAllows (before : Session) (k : ℕ) (r : StepAnswer) (after : Session) : Type 0 where
+  pub lifetimes : Lfts 1
+  pub args : Args type-key.signature lifetimes
+  pub exit : AtExit type-key.ended lifetimes
+  pub at-entry : now (args .0) ≡ before
+  pub key : args .1 .0 ≡ k
+  pub at-exit : now (exit .0) ≡ after
+  pub post : KeyPost lifetimes args r exit

@@ -12,21 +12,15 @@ use Rattle.rules.specs.CodePoints.{shown}
 use Rattle.rules.specs.Decision.{decision}
 use Rattle.rules.specs.Refusals.{all, isMode}
 use Rattle.rules.specs.WhatComesBack.{typed}
+use Rattle.rules.specs.AnswersInNumbers.{answered, outcomeNumbers, placeNumbers, decisionNumber, startSays, stepSays, typeSays, writeSays, placeSays, verdictSays, decisionSays}
 use Rattle.rules.specs.declared.Word.{Word}
 use Rattle.rules.specs.declared.Start.{Start}
-use Rattle.rules.specs.declared.StartAnswer.the-variants.{Started}
 use Rattle.rules.specs.declared.Step.{Step}
-use Rattle.rules.specs.declared.StepAnswer.the-variants.{Did}
 use Rattle.rules.specs.declared.TypeAll.{TypeAll}
-use Rattle.rules.specs.declared.TypeAnswer.the-variants.{AllTyped}
 use Rattle.rules.specs.declared.WriteAnswer.{WriteAnswer}
-use Rattle.rules.specs.declared.WriteAnswer.the-variants.{Wrote}
 use Rattle.rules.specs.declared.PlaceAnswer.{PlaceAnswer}
-use Rattle.rules.specs.declared.PlaceAnswer.the-variants.{Found}
 use Rattle.rules.specs.declared.VerdictAnswer.{VerdictAnswer}
-use Rattle.rules.specs.declared.VerdictAnswer.the-variants.{Judged}
 use Rattle.rules.specs.declared.DecisionAnswer.{DecisionAnswer}
-use Rattle.rules.specs.declared.DecisionAnswer.the-variants.{Decided}
 use Rattle.promises.specs.Contracts.{StartAllows, StepAllows, TypeAllows, ShowAllows, PlaceAllows, VerdictAllows, DecisionAllows}
 
 -- a word, and what steps by these keys, one after the other, make of it
@@ -51,23 +45,23 @@ pub record AsRuled (m : ℕ) (ks : List ℕ) (v : Word) : Type 0 where
   pub holds : wordOf v ≡ typed m ks
   -- the text, into an output with room for it; the tone's place, the verdict and the decision
   pub text : {before after : List ℕ} {r : WriteAnswer} → length (shown (typed m ks .state)) ≤ length before → ShowAllows v before r after →
-      (r ≡ Wrote (length (shown (typed m ks .state)))) × (after ≡ atFront (shown (typed m ks .state)) before)
-  pub place : {r : PlaceAnswer} → PlaceAllows v r → r ≡ Found (tonePlace (typed m ks .state .letters) (typed m ks .state .tone))
-  pub judgement : {r : VerdictAnswer} → VerdictAllows v r → r ≡ Judged (verdict (typed m ks .state .letters) (typed m ks .state .tone))
-  pub keep-or-restore : {r : DecisionAnswer} → DecisionAllows v r → r ≡ Decided (decision (typed m ks))
+      (writeSays r ≡ answered (length (shown (typed m ks .state)) ∷ [])) × (after ≡ atFront (shown (typed m ks .state)) before)
+  pub place : {r : PlaceAnswer} → PlaceAllows v r → placeSays r ≡ answered (placeNumbers (tonePlace (typed m ks .state .letters) (typed m ks .state .tone)))
+  pub judgement : {r : VerdictAnswer} → VerdictAllows v r → verdictSays r ≡ answered (verdict (typed m ks .state .letters) (typed m ks .state .tone) ∷ [])
+  pub keep-or-restore : {r : DecisionAnswer} → DecisionAllows v r → decisionSays r ≡ answered (decisionNumber (decision (typed m ks)) ∷ [])
   -- a key more that is allowed, where there is room for it, is answered by what the rules say that it does
-  pub next : {k : ℕ} {r : Step} → length ks + 1 ≤ mostKeys → T (isKey m k) → StepAllows v k r → r .answer ≡ Did (outcomeOf (keyDoes (typed m ks) k))
+  pub next : {k : ℕ} {r : Step} → length ks + 1 ≤ mostKeys → T (isKey m k) → StepAllows v k r → stepSays (r .answer) ≡ answered (outcomeNumbers (outcomeOf (keyDoes (typed m ks) k)))
 
 -- one by one, from a new word
 abbrev pub AfterEachKey : Type 0
-AfterEachKey = (m : ℕ) (ks : List ℕ) (new : Start) (v : Word) → AcceptedKeys m ks → StartAllows m new → Stepped (new .word) ks v → (new .answer ≡ Started) × AsRuled m ks v
+AfterEachKey = (m : ℕ) (ks : List ℕ) (new : Start) (v : Word) → AcceptedKeys m ks → StartAllows m new → Stepped (new .word) ks v → (startSays (new .answer) ≡ answered []) × AsRuled m ks v
 
 -- all at once
 abbrev pub AfterTheList : Type 0
-AfterTheList = (m : ℕ) (ks : List ℕ) (r : TypeAll) → AcceptedKeys m ks → TypeAllows m ks r → (r .answer ≡ AllTyped) × AsRuled m ks (r .word)
+AfterTheList = (m : ℕ) (ks : List ℕ) (r : TypeAll) → AcceptedKeys m ks → TypeAllows m ks r → (typeSays (r .answer) ≡ answered []) × AsRuled m ks (r .word)
 
 -- the same word both ways
 abbrev pub AtEachKey : Type 0
 AtEachKey =
     (m : ℕ) (ks : List ℕ) (new : Start) (v : Word) (r : TypeAll) → AcceptedKeys m ks → StartAllows m new → Stepped (new .word) ks v → TypeAllows m ks r
-    → (r .answer ≡ AllTyped) × (r .word ≡ v)
+    → (typeSays (r .answer) ≡ answered []) × (r .word ≡ v)

@@ -1,6 +1,6 @@
 -- Demand 3, second half, of whatever the contracts allow: for each valid syllable its bare letters, then its stroke, shape and tone keys in any order, give that syllable.
 use mathlib.Core.Path.{_≡_}
-use mathlib.Core.List.{List, _++_, map}
+use mathlib.Core.List.{List, [], _∷_, _++_, map}
 use Prim.Native.Nat.{ℕ, _≤_, _<_}
 use lib.Dec.{T}
 use lib.ListN.{length}
@@ -10,28 +10,25 @@ use Rattle.rules.specs.KeyRoles.{lower}
 use Rattle.rules.specs.CodePoints.{shown}
 use Rattle.rules.specs.Speller.{toneKeys}
 use Rattle.rules.specs.Refusals.{isMode}
+use Rattle.rules.specs.AnswersInNumbers.{refused, answered, decisionNumber, typeSays, writeSays, verdictSays, decisionSays}
 use Rattle.rules.specs.declared.TypeAll.{TypeAll}
-use Rattle.rules.specs.declared.TypeAnswer.the-variants.{AllTyped}
 use Rattle.rules.specs.declared.WriteAnswer.{WriteAnswer}
-use Rattle.rules.specs.declared.WriteAnswer.the-variants.{Wrote, Refused}
 use Rattle.rules.specs.declared.VerdictAnswer.{VerdictAnswer}
-use Rattle.rules.specs.declared.VerdictAnswer.the-variants.{Judged}
 use Rattle.rules.specs.declared.DecisionAnswer.{DecisionAnswer}
-use Rattle.rules.specs.declared.DecisionAnswer.the-variants.{Decided}
 use Rattle.rules.specs.declared.Decision.the-variants.{Keep}
-use Rattle.forms.specs.Syllables.{Syllable, openWord, bareKeys, markKeys, Order}
+use Rattle.rules.specs.Syllables.{Syllable, openWord, bareKeys, markKeys, Order}
 use Rattle.promises.specs.Contracts.{TypeAllows, ShowAllows, VerdictAllows, DecisionAllows}
 
 -- The result of typing a list is this syllable: its letters in their case, its tone, open; show writes its text where there is room for it, the verdict is 0 and the decision keep.
 pub record IsSyllable (r : TypeAll) (w : Letters) (t : ℕ) : Type 0 where
-  pub answer : r .answer ≡ AllTyped
+  pub answer : typeSays (r .answer) ≡ answered []
   pub state : wordOf (r .word) .state ≡ openWord w t
   pub text : {before after : List ℕ} {a : WriteAnswer} → length (shown (openWord w t)) ≤ length before → ShowAllows (r .word) before a after →
-      (a ≡ Wrote (length (shown (openWord w t)))) × (after ≡ atFront (shown (openWord w t)) before)
+      (writeSays a ≡ answered (length (shown (openWord w t)) ∷ [])) × (after ≡ atFront (shown (openWord w t)) before)
   pub no-room : {before after : List ℕ} {a : WriteAnswer} → length before < length (shown (openWord w t)) → ShowAllows (r .word) before a after →
-      (a ≡ Refused (record { number = 4; value = length (shown (openWord w t)) })) × (after ≡ before)
-  pub verdict : {v : VerdictAnswer} → VerdictAllows (r .word) v → v ≡ Judged 0
-  pub decision : {d : DecisionAnswer} → DecisionAllows (r .word) d → d ≡ Decided Keep
+      (writeSays a ≡ refused 4 (length (shown (openWord w t)))) × (after ≡ before)
+  pub verdict : {v : VerdictAnswer} → VerdictAllows (r .word) v → verdictSays v ≡ answered (0 ∷ [])
+  pub decision : {d : DecisionAnswer} → DecisionAllows (r .word) d → decisionSays d ≡ answered (decisionNumber Keep ∷ [])
 
 -- Each valid syllable in both modes and every mix of capitals; the added keys in either case and any order.
 abbrev pub SecondHalf : Type 0

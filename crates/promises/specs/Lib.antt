@@ -1,4 +1,5 @@
 pub mod Contracts
+pub mod Exactly
 pub mod TwoOrders
 pub mod EachKey
 pub mod EachSyllable

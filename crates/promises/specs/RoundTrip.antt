@@ -1,6 +1,6 @@
 -- Demand 2, the other way, of whatever the contracts allow: every valid syllable as shown is spelled into its one standard key list, and typing that list shows the syllable again; and nothing else is spelled.
 use mathlib.Core.Path.{_≡_}
-use mathlib.Core.List.{List}
+use mathlib.Core.List.{List, [], _∷_}
 use Prim.Native.Nat.{ℕ, _≤_}
 use lib.Dec.{T}
 use lib.ListN.{length, take}
@@ -9,18 +9,17 @@ use Rattle.rules.specs.TheWord.{atFront}
 use Rattle.rules.specs.CodePoints.{shown}
 use Rattle.rules.specs.Speller.{standardKeys}
 use Rattle.rules.specs.Refusals.{isMode}
+use Rattle.rules.specs.AnswersInNumbers.{answered, writeSays}
 use Rattle.rules.specs.declared.TypeAll.{TypeAll}
 use Rattle.rules.specs.declared.WriteAnswer.{WriteAnswer}
-use Rattle.rules.specs.declared.WriteAnswer.the-variants.{Wrote}
-use Rattle.forms.specs.Syllables.{Syllable, openWord}
-use Rattle.forms.specs.Spelling.{ShownBySyllable}
+use Rattle.rules.specs.Syllables.{Syllable, openWord, ShownBySyllable}
 use Rattle.promises.specs.Contracts.{TypeAllows, SpellAllows}
 use Rattle.promises.specs.EachSyllable.{IsSyllable}
 
 -- What is promised of the speller's result on the text of a syllable.
 pub record Spelled (m : ℕ) (w : Letters) (t : ℕ) (before : List ℕ) (r : WriteAnswer) (after : List ℕ) : Type 0 where
   -- the standard list at the front of the output, at most 9 keys, and the rest as it was
-  pub answer : r ≡ Wrote (length (standardKeys m w t))
+  pub answer : writeSays r ≡ answered (length (standardKeys m w t) ∷ [])
   pub output : after ≡ atFront (standardKeys m w t) before
   pub few : length (standardKeys m w t) ≤ 9
   -- typing it gives the syllable, which shows the same text
@@ -35,8 +34,9 @@ SpelledBack =
 -- The keys that were written, into whatever output: two texts for which they are the same are one text.
 abbrev pub OneList : Type 0
 OneList =
-    (m : ℕ) (text text′ before before′ after after′ : List ℕ) (n n′ : ℕ) → SpellAllows m text before (Wrote n) after → SpellAllows m text′ before′ (Wrote n′) after′ → take n after ≡ take n′ after′ → text ≡ text′
+    (m : ℕ) (text text′ before before′ after after′ : List ℕ) (r r′ : WriteAnswer) (n n′ : ℕ) → SpellAllows m text before r after → writeSays r ≡ answered (n ∷ [])
+    → SpellAllows m text′ before′ r′ after′ → writeSays r′ ≡ answered (n′ ∷ []) → take n after ≡ take n′ after′ → text ≡ text′
 
 -- Whatever is spelled, in whatever mode and output, is the shown text of a valid syllable.
 abbrev pub OnlySyllables : Type 0
-OnlySyllables = (m : ℕ) (text before after : List ℕ) (n : ℕ) → SpellAllows m text before (Wrote n) after → ShownBySyllable text
+OnlySyllables = (m : ℕ) (text before after : List ℕ) (r : WriteAnswer) (n : ℕ) → SpellAllows m text before r after → writeSays r ≡ answered (n ∷ []) → ShownBySyllable text

@@ -9,23 +9,17 @@ use Rattle.rules.specs.TheWord.{mostKeys, mostBytes, wordOf, atFront}
 use Rattle.rules.specs.KeyRoles.{role}
 use Rattle.rules.specs.CodePoints.{shown}
 use Rattle.rules.specs.Refusals.{outOfRange}
+use Rattle.rules.specs.AnswersInNumbers.{answered, outcomeNumbers, stepSays, writeSays, placeSays, verdictSays, decisionSays}
 use Rattle.rules.specs.declared.Word.{Word}
 use Rattle.rules.specs.declared.Role.{Role}
 use Rattle.rules.specs.declared.Role.the-variants.{ToneRole, ShapeRole, StrokeRole, NoRole}
 use Rattle.rules.specs.declared.Act.{Act}
 use Rattle.rules.specs.declared.Outcome.the-variants.{Acted}
 use Rattle.rules.specs.declared.Step.{Step}
-use Rattle.rules.specs.declared.StepAnswer.the-variants.{Did}
 use Rattle.rules.specs.declared.WriteAnswer.{WriteAnswer}
-use Rattle.rules.specs.declared.WriteAnswer.the-variants.{Wrote}
 use Rattle.rules.specs.declared.PlaceAnswer.{PlaceAnswer}
-use Rattle.rules.specs.declared.PlaceAnswer.the-variants.{Found}
 use Rattle.rules.specs.declared.VerdictAnswer.{VerdictAnswer}
-use Rattle.rules.specs.declared.VerdictAnswer.the-variants.{Judged}
 use Rattle.rules.specs.declared.DecisionAnswer.{DecisionAnswer}
-use Rattle.rules.specs.declared.DecisionAnswer.the-variants.{Decided}
-use Rattle.rules.specs.declared.Place.{Place}
-use Rattle.rules.specs.declared.Decision.{Decision}
 use Rattle.promises.specs.Contracts.{StepAllows, ShowAllows, PlaceAllows, VerdictAllows, DecisionAllows}
 
 -- The families: tone with clear; vowel shape; stroke. A key without a role is of none.
@@ -71,28 +65,32 @@ withKeys w ks =
       appended = w .appended;
     }
 
+-- The step's answer is that the key acted, and as what.
+abbrev pub ActsAs : Step → Act → Type 0
+ActsAs r a = stepSays (r .answer) ≡ answered (outcomeNumbers (Acted a))
+
 -- What is promised of the results of both orders: `km` is k and then m, `mk` is m and then k.
 pub record BothOrders (w : Word) (k m : ℕ) (a b : Act) (km mk : Step) : Type 0 where
   -- both keys act in both orders
-  pub m-acts : km .answer ≡ Did (Acted b)
-  pub k-acts : mk .answer ≡ Did (Acted a)
+  pub m-acts : ActsAs km b
+  pub k-acts : ActsAs mk a
   -- the two words are equal in letters, tone, mark and counts: in everything but the kept keys,
   pub words : km .word ≡ withKeys (mk .word) (km .word .keys)
   -- which are the old keys and then the two in the order typed
   pub k-then-m : km .word .keys ≡ atFront (take (w .typed) (w .keys) ++ (k ∷ m ∷ [])) (w .keys)
   pub m-then-k : mk .word .keys ≡ atFront (take (w .typed) (w .keys) ++ (m ∷ k ∷ [])) (w .keys)
   -- the same text into any output, written where there is room for any text
-  pub text : {out after after′ : List ℕ} {r r′ : WriteAnswer} → ShowAllows (km .word) out r after → ShowAllows (mk .word) out r′ after′ → (r ≡ r′) × (after ≡ after′)
+  pub text : {out after after′ : List ℕ} {r r′ : WriteAnswer} → ShowAllows (km .word) out r after → ShowAllows (mk .word) out r′ after′ → (writeSays r ≡ writeSays r′) × (after ≡ after′)
   pub text-written : {out after : List ℕ} {r : WriteAnswer} → mostBytes ≤ length out → ShowAllows (km .word) out r after →
-      (r ≡ Wrote (length (shown (wordOf (km .word) .state)))) × (after ≡ atFront (shown (wordOf (km .word) .state)) out)
+      (writeSays r ≡ answered (length (shown (wordOf (km .word) .state)) ∷ [])) × (after ≡ atFront (shown (wordOf (km .word) .state)) out)
   -- the same place, verdict and decision, and none of these is a refusal
-  pub place : {r r′ : PlaceAnswer} → PlaceAllows (km .word) r → PlaceAllows (mk .word) r′ → (p : Place) × (r ≡ Found p) × (r′ ≡ Found p)
-  pub verdict : {r r′ : VerdictAnswer} → VerdictAllows (km .word) r → VerdictAllows (mk .word) r′ → (v : ℕ) × (r ≡ Judged v) × (r′ ≡ Judged v)
-  pub decision : {r r′ : DecisionAnswer} → DecisionAllows (km .word) r → DecisionAllows (mk .word) r′ → (d : Decision) × (r ≡ Decided d) × (r′ ≡ Decided d)
+  pub place : {r r′ : PlaceAnswer} → PlaceAllows (km .word) r → PlaceAllows (mk .word) r′ → (ns : List ℕ) × (placeSays r ≡ answered ns) × (placeSays r′ ≡ answered ns)
+  pub verdict : {r r′ : VerdictAnswer} → VerdictAllows (km .word) r → VerdictAllows (mk .word) r′ → (ns : List ℕ) × (verdictSays r ≡ answered ns) × (verdictSays r′ ≡ answered ns)
+  pub decision : {r r′ : DecisionAnswer} → DecisionAllows (km .word) r → DecisionAllows (mk .word) r′ → (ns : List ℕ) × (decisionSays r ≡ answered ns) × (decisionSays r′ ≡ answered ns)
 
 -- Two keys whose roles in the word's mode are of different families; each of them, typed alone, acts. Then the promise holds of any results that the contracts allow.
 abbrev pub FirstHalf : Type 0
 FirstHalf =
     (w : Word) (k m : ℕ) (a b : Act) (wk wm km mk : Step) → OpenWithRoom w → T (differ (role (w .mode) k) (role (w .mode) m))
-    → StepAllows w k wk → wk .answer ≡ Did (Acted a) → StepAllows w m wm → wm .answer ≡ Did (Acted b)
+    → StepAllows w k wk → ActsAs wk a → StepAllows w m wm → ActsAs wm b
     → StepAllows (wk .word) m km → StepAllows (wm .word) k mk → BothOrders w k m a b km mk

@@ -13,14 +13,14 @@ use Rattle.rules.specs.KeyRoles.{isKey}
 use Rattle.rules.specs.TakingApart.{verdict}
 use Rattle.rules.specs.Decision.{startsWithĐ, keeps, keepIf, handedBack}
 use Rattle.rules.specs.CodePoints.{shown}
-use Rattle.rules.specs.Refusals.{all, isMode, sameBytes, table, refusal}
+use Rattle.rules.specs.Refusals.{all, isMode, sameBytes, table, refusal, NoneHolds, no-rows, not-this}
 use Rattle.rules.specs.WhatComesBack.{typed, commitCall, commitOr, commit, grantedOr, commitAnswer}
 use Rattle.rules.specs.HandedBack.{KeptSince, valid, closed, with-đ, untouched, HandedBack, the-keys, the-text}
 use Rattle.rules.specs.declared.Refusal.{Refusal}
 use Rattle.rules.specs.declared.CommitAnswer.the-variants.{Granted}
 use Rattle.rules.proofs.Tests.{either}
 use Rattle.rules.proofs.Range.{not-not, twice, not-over, in-range}
-use Rattle.rules.proofs.Refused.{NoneHolds, no-rows, not-this, refusal-none}
+use Rattle.rules.proofs.Refused.{refusal-none}
 use Rattle.rules.proofs.Typing.{new-held, list-held}
 use Rattle.rules.proofs.TextFits.{few-bytes}
 

@@ -14,7 +14,7 @@ use Rattle.rules.specs.TheWord.{mostKeys, mostBytes, newWord, wordOf, at
 use Rattle.rules.specs.KeyRoles.{isKey}
 use Rattle.rules.specs.CodePoints.{shown}
 use Rattle.rules.specs.Decision.{decision}
-use Rattle.rules.specs.Refusals.{all, isMode, outOfRange, table, refusal}
+use Rattle.rules.specs.Refusals.{all, isMode, outOfRange, table, refusal, NoneHolds, not-this}
 use Rattle.rules.specs.WhatComesBack.{typed, typeCall, typeOr, typeAll, show, Written, verdictAnswer, placeAnswer, decisionAnswer}
 use Rattle.rules.specs.declared.Word.{Word}
 use Rattle.rules.specs.declared.Refusal.{Refusal}
@@ -35,7 +35,7 @@ use Rattle.rules.specs.declared.DecisionAnswer.the-variants.{Refused as 
 use Rattle.rules.specs.declared.Decision.{Decision}
 use Rattle.rules.specs.declared.Place.{Place}
 use Rattle.rules.proofs.Tests.{is-false}
-use Rattle.rules.proofs.Refused.{NoneHolds, not-this, refusal-none}
+use Rattle.rules.proofs.Refused.{refusal-none}
 use Rattle.rules.proofs.StaysInRange.{read-front}
 use Rattle.rules.proofs.Records.{word-held}
 use Rattle.rules.proofs.Typing.{Held, new-held, list-held}

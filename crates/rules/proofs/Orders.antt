@@ -74,7 +74,7 @@ orders z k m {a} {b} {t} {u} o p g h =
       first-acts = after z m k o h′ (x .2);
     }
 
--- It is not idle: after duong, in both modes, each of stroke, horn and tone would act, and the six orders of the three give đường.
+-- It is not idle: after duong, in both modes, each of stroke, horn and tone would act, and the six orders of the three give đường; and with a tone there each of stroke, horn and clear would.
 abbrev isActing : Done → Bool
 isActing (acted a s) = true
 isActing (undone s) = false
@@ -90,7 +90,7 @@ givesĐường mode (ks ∷ more) =
     let z = typed mode (characters "duong" ++ characters ks) in
     (same (z .state .letters) (word "đương") && (eqb (z .state .tone) grave && (eqb (z .acted) 3 && not (z .state .closed)))) && givesĐường mode more
 
-not-idle : T (wouldAct telex "duong" (characters "dwf") && wouldAct vni "duong" (characters "972"))
+not-idle : T (wouldAct telex "duong" (characters "dwf") && (wouldAct vni "duong" (characters "972") && (wouldAct telex "duongf" (characters "dwz") && wouldAct vni "duong2" (characters "970"))))
 unfolding admitted someAgrees fits fit joins initial nucleus final leftovers
 not-idle = tt
 

@@ -10,13 +10,13 @@ use lib.Seq.{drop-append-add, drop-drop}
 use lib.Ieee.Fits.{and-i}
 use Rattle.rules.specs.TheWord.{Typed, mostKeys, letter, number, wordOf, atFront, holding, outcomeOf}
 use Rattle.rules.specs.KeyRoles.{isKey, keyDoes, type}
-use Rattle.rules.specs.Refusals.{outOfRange}
+use Rattle.rules.specs.Refusals.{outOfRange, no-rows, not-this}
 use Rattle.rules.specs.WhatComesBack.{stepCall, stepOr, step}
 use Rattle.rules.specs.declared.Word.{Word}
 use Rattle.rules.specs.declared.StepAnswer.the-variants.{Did}
 use Rattle.rules.specs.LettersOfAMode.{AllFine}
 use Rattle.rules.proofs.Numbers.{letters-numbers}
-use Rattle.rules.proofs.Refused.{no-rows, not-this, refusal-none}
+use Rattle.rules.proofs.Refused.{refusal-none}
 use Rattle.rules.proofs.StaysInRange.{read-front}
 use Rattle.rules.proofs.Range.{not-over, twice}
 

@@ -3,13 +3,13 @@ use mathlib.Core.Path.{_≡_, refl, sym, ap, ap₂, subst, _∙_}
 use mathlib.Core.Bool.{Bool, true, false, not}
 use mathlib.Core.List.{List, [], _∷_}
 use mathlib.Core.Option.{Option, none, some}
-use mathlib.Core.Logic.{_↔_}
+use mathlib.Core.Logic.{_↔_, _⊎_, inl, inr}
 use Prim.Native.Nat.{ℕ}
 use native.Mathlib.Omega.{arith}
 use lib.Dec.{T}
 use Rattle.rules.specs.Letters.{telex}
 use Rattle.rules.specs.TheWord.{newWord}
-use Rattle.rules.specs.Refusals.{Call, TableRow, table, firstRow, refusal}
+use Rattle.rules.specs.Refusals.{Call, TableRow, table, firstRow, refusal, FirstOf, this-row, later-row, NoneHolds, no-rows, not-this}
 use Rattle.rules.specs.WhatComesBack.{startCall, startOr, start, stepCall, stepOr, step, typeCall, typeOr, typeAll, writeOr, showCall, show, wordCall, placeOr, placeAnswer, verdictOr, verdictAnswer, decisionOr, decisionAnswer, commitCall, commitOr, commit, grantedOr, commitAnswer, spellCall, spell}
 use Rattle.rules.specs.AnswersInNumbers.{Says, answered, refusing, startSays, stepSays, typeSays, writeSays, placeSays, verdictSays, decisionSays, commitSays}
 use Rattle.rules.specs.declared.Word.{Word}
@@ -23,22 +23,9 @@ numbersOf (r ∷ rs) = r .number ∷ numbersOf rs
 pub table-order : (c : Call) → numbersOf (table c) ≡ 8 ∷ 1 ∷ 2 ∷ 2 ∷ 3 ∷ 6 ∷ 7 ∷ 5 ∷ 4 ∷ []
 table-order c = refl
 
--- a row whose condition holds, where no earlier one's does
-pub data First : List TableRow → TableRow → Type 0 where
-  at-front : {r : TableRow} {rs : List TableRow} → T (r .when) → First (r ∷ rs) r
-  further : {q r : TableRow} {rs : List TableRow} → T (not (q .when)) → First rs r → First (q ∷ rs) r
-
--- no row's condition holds
-pub data NoneHolds : List TableRow → Type 0 where
-  no-rows : NoneHolds []
-  not-this : {r : TableRow} {rs : List TableRow} → T (not (r .when)) → NoneHolds rs → NoneHolds (r ∷ rs)
-
-abbrev pub refusalOf : TableRow → Refusal
-refusalOf r = record { number = r .number; value = r .returned }
-
 data View (rs : List TableRow) : Option Refusal → Type 0 where
   not-refused : NoneHolds rs → View rs none
-  refused-by : {r : TableRow} → First rs r → View rs (some (refusalOf r))
+  refused-by : {x : Refusal} → FirstOf rs x → View rs (some x)
 
 view : (rs : List TableRow) → View rs (firstRow rs)
 view [] = not-refused no-rows
@@ -46,10 +33,10 @@ view (r ∷ rs) = go (r .when) refl (view rs)
   where
     next : {o : Option Refusal} → T (not (r .when)) → View rs o → View (r ∷ rs) o
     next t (not-refused n) = not-refused (not-this t n)
-    next t (refused-by f) = refused-by (further t f)
+    next t (refused-by f) = refused-by (later-row t f)
 
-    go : (b : Bool) → r .when ≡ b → {o : Option Refusal} → View rs o → View (r ∷ rs) (elim b [ true ↦ some (refusalOf r) | false ↦ o ])
-    go true e h = refused-by (at-front (subst T (sym e) tt))
+    go : (b : Bool) → r .when ≡ b → {o : Option Refusal} → View rs o → View (r ∷ rs) (elim b [ true ↦ some (record { number = r .number; value = r .returned }) | false ↦ o ])
+    go true e h = refused-by (this-row (subst T (sym e) tt))
     go false e h = next (subst (λ (b : Bool). T (not b)) (sym e) tt) h
 
 if-true : (b : Bool) (x o : Option Refusal) → T b → elim b [ true ↦ x | false ↦ o ] ≡ x
@@ -60,24 +47,20 @@ if-false : (b : Bool) (x o : Option Refusal) → T (not b) → elim b [ true ↦
 if-false true x o t = absurd t
 if-false false x o t = refl
 
-pub first-given : {rs : List TableRow} {r : TableRow} → First rs r → firstRow rs ≡ some (refusalOf r)
-first-given (at-front {r = r} t) = if-true (r .when) _ _ t
-first-given (further {q = q} t f) = if-false (q .when) _ _ t ∙ first-given f
+first-given : {rs : List TableRow} {x : Refusal} → FirstOf rs x → firstRow rs ≡ some x
+first-given (this-row {r = r} t) = if-true (r .when) _ _ t
+first-given (later-row {r = r} t f) = if-false (r .when) _ _ t ∙ first-given f
 
 none-given : {rs : List TableRow} → NoneHolds rs → firstRow rs ≡ none
 none-given no-rows = refl
 none-given (not-this {r = r} t n) = if-false (r .when) _ _ t ∙ none-given n
 
--- the refusal x is the table's at this call: a row's, whose condition holds, where no earlier one's does
-pub Given : Call → Refusal → Type 0
-Given c x = (r : TableRow) × First (table c) r × (x ≡ refusalOf r)
+of-view : {rs : List TableRow} {x : Refusal} → View rs (some x) → FirstOf rs x
+of-view (refused-by f) = f
 
-of-view : {rs : List TableRow} {x : Refusal} → View rs (some x) → (r : TableRow) × First rs r × (x ≡ refusalOf r)
-of-view (refused-by {r = r} f) = (r, f, refl)
-
-pub refusal-given : (c : Call) (x : Refusal) → refusal c ≡ some x ↔ Given c x
-unfolding refusal Given
-refusal-given c x = (λ e. of-view (subst (View (table c)) e (view (table c))), λ (r, f, e). first-given f ∙ ap (λ (y : Refusal). some y) (sym e))
+pub refusal-given : (c : Call) (x : Refusal) → refusal c ≡ some x ↔ FirstOf (table c) x
+unfolding refusal
+refusal-given c x = (λ e. of-view (subst (View (table c)) e (view (table c))), first-given)
 
 of-none : {rs : List TableRow} → View rs none → NoneHolds rs
 of-none (not-refused n) = n
@@ -86,54 +69,63 @@ pub refusal-none : (c : Call) → refusal c ≡ none ↔ NoneHolds (table c)
 unfolding refusal
 refusal-none c = (λ e. of-none (subst (View (table c)) e (view (table c))), none-given)
 
+-- a call is not refused, or it is, by some row
+pub one-or-the-other : (c : Call) → NoneHolds (table c) ⊎ ((x : Refusal) × FirstOf (table c) x)
+unfolding refusal
+one-or-the-other c = go (view (table c))
+  where
+    go : {o : Option Refusal} → View (table c) o → NoneHolds (table c) ⊎ ((x : Refusal) × FirstOf (table c) x)
+    go (not-refused n) = inl n
+    go (refused-by {x = x} f) = inr (x, f)
+
 -- an entry's answer, over the refusal of its call: it is refused with these numbers exactly so
 module _ (says : Option Refusal → Says) (vs : List ℕ) (when-none : says none ≡ answered vs) (when-refused : (x : Refusal) → says (some x) ≡ refusing x) where
   held : (o : Option Refusal) (x : Refusal) → says o ≡ refusing x → o ≡ some x
   held none x e = let f : answered vs ≡ refusing x = sym when-none ∙ e in let z : _≡_ {A = ℕ} 0 1 = cc in absurd (omega arith)
   held (some y) x e = let f : refusing y ≡ refusing x = sym (when-refused y) ∙ e in ap₂ (λ (n v : ℕ). some (record { number = n; value = v })) (cc) (cc)
 
-  exactly : (c : Call) (x : Refusal) → says (refusal c) ≡ refusing x ↔ Given c x
+  exactly : (c : Call) (x : Refusal) → says (refusal c) ≡ refusing x ↔ FirstOf (table c) x
   exactly c x = (λ e. refusal-given c x .0 (held (refusal c) x e), λ g. ap says (refusal-given c x .1 g) ∙ when-refused x)
 
   -- what holds at every refusal holds where it is refused
   where-refused : (P : Option Refusal → Type 0) → ((r : Refusal) → P (some r)) → (c : Call) (x : Refusal) → says (refusal c) ≡ refusing x → P (refusal c)
   where-refused P h c x e = subst P (sym (held (refusal c) x e)) (h x)
 
-pub start-exactly : (m : ℕ) (x : Refusal) → startSays (start m .answer) ≡ refusing x ↔ Given (startCall m) x
+pub start-exactly : (m : ℕ) (x : Refusal) → startSays (start m .answer) ≡ refusing x ↔ FirstOf (table (startCall m)) x
 start-exactly m x = exactly (λ o. startSays (startOr o m .answer)) _ refl (λ y. refl) (startCall m) x
 
-pub step-exactly : (w : Word) (k : ℕ) (x : Refusal) → stepSays (step w k .answer) ≡ refusing x ↔ Given (stepCall w k) x
+pub step-exactly : (w : Word) (k : ℕ) (x : Refusal) → stepSays (step w k .answer) ≡ refusing x ↔ FirstOf (table (stepCall w k)) x
 unfolding step
 step-exactly w k x = exactly (λ o. stepSays (stepOr o w k .answer)) _ refl (λ y. refl) (stepCall w k) x
 
-pub type-exactly : (m : ℕ) (ks : List ℕ) (x : Refusal) → typeSays (typeAll m ks .answer) ≡ refusing x ↔ Given (typeCall m ks) x
+pub type-exactly : (m : ℕ) (ks : List ℕ) (x : Refusal) → typeSays (typeAll m ks .answer) ≡ refusing x ↔ FirstOf (table (typeCall m ks)) x
 unfolding typeAll
 type-exactly m ks x = exactly (λ o. typeSays (typeOr o m ks .answer)) _ refl (λ y. refl) (typeCall m ks) x
 
-pub place-exactly : (w : Word) (x : Refusal) → placeSays (placeAnswer w) ≡ refusing x ↔ Given (wordCall w) x
+pub place-exactly : (w : Word) (x : Refusal) → placeSays (placeAnswer w) ≡ refusing x ↔ FirstOf (table (wordCall w)) x
 unfolding placeAnswer
 place-exactly w x = exactly (λ o. placeSays (placeOr o w)) _ refl (λ y. refl) (wordCall w) x
 
-pub verdict-exactly : (w : Word) (x : Refusal) → verdictSays (verdictAnswer w) ≡ refusing x ↔ Given (wordCall w) x
+pub verdict-exactly : (w : Word) (x : Refusal) → verdictSays (verdictAnswer w) ≡ refusing x ↔ FirstOf (table (wordCall w)) x
 unfolding verdictAnswer
 verdict-exactly w x = exactly (λ o. verdictSays (verdictOr o w)) _ refl (λ y. refl) (wordCall w) x
 
-pub decision-exactly : (w : Word) (x : Refusal) → decisionSays (decisionAnswer w) ≡ refusing x ↔ Given (wordCall w) x
+pub decision-exactly : (w : Word) (x : Refusal) → decisionSays (decisionAnswer w) ≡ refusing x ↔ FirstOf (table (wordCall w)) x
 unfolding decisionAnswer
 decision-exactly w x = exactly (λ o. decisionSays (decisionOr o w)) _ refl (λ y. refl) (wordCall w) x
 
-pub commit-exactly : (m : ℕ) (ks text : List ℕ) (x : Refusal) → commitSays (commitAnswer m ks text) ≡ refusing x ↔ Given (commitCall m ks text) x
+pub commit-exactly : (m : ℕ) (ks text : List ℕ) (x : Refusal) → commitSays (commitAnswer m ks text) ≡ refusing x ↔ FirstOf (table (commitCall m ks text)) x
 unfolding commitAnswer
 commit-exactly m ks text x = exactly (λ o. commitSays (grantedOr o)) _ refl (λ y. refl) (commitCall m ks text) x
 
-pub write-exactly : (c : Call) (text out : List ℕ) (x : Refusal) → writeSays (writeOr (refusal c) text out .answer) ≡ refusing x ↔ Given c x
+pub write-exactly : (c : Call) (text out : List ℕ) (x : Refusal) → writeSays (writeOr (refusal c) text out .answer) ≡ refusing x ↔ FirstOf (table c) x
 write-exactly c text out x = exactly (λ o. writeSays (writeOr o text out .answer)) _ refl (λ y. refl) c x
 
-pub show-exactly : (w : Word) (out : List ℕ) (x : Refusal) → writeSays (show w out .answer) ≡ refusing x ↔ Given (showCall w out) x
+pub show-exactly : (w : Word) (out : List ℕ) (x : Refusal) → writeSays (show w out .answer) ≡ refusing x ↔ FirstOf (table (showCall w out)) x
 unfolding show
 show-exactly w out x = write-exactly (showCall w out) _ out x
 
-pub spell-exactly : (m : ℕ) (text out : List ℕ) (x : Refusal) → writeSays (spell m text out .answer) ≡ refusing x ↔ Given (spellCall m text out) x
+pub spell-exactly : (m : ℕ) (text out : List ℕ) (x : Refusal) → writeSays (spell m text out .answer) ≡ refusing x ↔ FirstOf (table (spellCall m text out)) x
 unfolding spell
 spell-exactly m text out x = write-exactly (spellCall m text out) _ out x
 

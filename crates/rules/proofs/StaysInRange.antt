@@ -12,7 +12,7 @@ use lib.Ieee.Fits.{and-i, and-l, and-r}
 use Rattle.rules.specs.Letters.{Letter, noTone, dot, telex, vni}
 use Rattle.rules.specs.TheWord.{State, Typed, Done, acted, undone, appended, stateOf, outcomeOf, isActed, isUndone, isAppended, oneMore, counted, mostKeys, letter, number, wordOf, atFront, holding}
 use Rattle.rules.specs.KeyRoles.{isKey, letterOfKey, lower, roleIn, telexRoles, vniRoles, role, append, undo, withLetters, withTone, undoIf, actIf, toneGoes, Edit, editDoes, roleDoes, unlessClosed, keyDoes}
-use Rattle.rules.specs.Refusals.{all, outOfRange, table, refusal}
+use Rattle.rules.specs.Refusals.{all, outOfRange, table, refusal, NoneHolds, not-this}
 use Rattle.rules.specs.WhatComesBack.{stepCall, stepOr, step}
 use Rattle.rules.specs.declared.Word.{Word}
 use Rattle.rules.specs.declared.Outcome.{Outcome}
@@ -26,7 +26,7 @@ use Rattle.rules.proofs.Edits.{Good, good-none, good-off, good, good-sh
 use Rattle.rules.specs.LettersOfAMode.{Fine, AllFine}
 use Rattle.rules.proofs.Numbers.{NumbersInRange, numbers-in-range, fine-letters, fine-alike, fine-append, fine-key}
 use Rattle.rules.proofs.Range.{InRange, in-range, range-in, not-not}
-use Rattle.rules.proofs.Refused.{NoneHolds, not-this, refusal-none}
+use Rattle.rules.proofs.Refused.{refusal-none}
 
 -- letters that the mode can hold, and a tone that exists
 pub record StateFine (mode : ℕ) (s : State) : Type 0 where

@@ -10,6 +10,7 @@ pub mod TonePlace
 pub mod Decision
 pub mod CodePoints
 pub mod Speller
+pub mod Syllables
 pub mod Drill
 pub mod SpellProgram
 pub mod Cards

@@ -3,7 +3,7 @@ use mathlib.Core.Bool.{Bool, true, false, not, _&&_, _||_}
 use mathlib.Core.List.{List, [], _∷_, _++_}
 use mathlib.Core.Option.{Option, none, some}
 use Prim.Native.Nat.{ℕ, suc, _+_}
-use lib.Dec.{eqb, ltb}
+use lib.Dec.{T, eqb, ltb}
 use lib.ListN.{length, take}
 use Rattle.rules.specs.Letters.{Letter, dot, telex, vni, carries}
 use Rattle.rules.specs.TheWord.{mostKeys, mostBytes, letter, number}
@@ -218,3 +218,13 @@ firstRow (r ∷ rs) = elim (r .when) [ true ↦ some (record { number = r .numbe
 
 unfoldable pub refusal : Call → Option Refusal
 refusal c = firstRow (table c)
+
+-- 1.24 A refusal is of the first row that holds when the row holds and no earlier one does.
+pub data FirstOf : List TableRow → Refusal → Type 0 where
+  this-row : {r : TableRow} {rs : List TableRow} → T (r .when) → FirstOf (r ∷ rs) (record { number = r .number; value = r .returned })
+  later-row : {r : TableRow} {rs : List TableRow} {x : Refusal} → T (not (r .when)) → FirstOf rs x → FirstOf (r ∷ rs) x
+
+-- 1.25 Nothing is refused when no row holds.
+pub data NoneHolds : List TableRow → Type 0 where
+  no-rows : NoneHolds []
+  not-this : {r : TableRow} {rs : List TableRow} → T (not (r .when)) → NoneHolds rs → NoneHolds (r ∷ rs)

@@ -20,17 +20,17 @@ use Rattle.session.specs.Sessions.{sessionOf}
 use Rattle.session.proofs.type_key as type-key
 
 -- what the `ensures` states, as a plain fact, and that it is what the contract states in every model
-abbrev Allowed : (κs : Lfts 1) → Args type-key.signature κs → Res type-key.signature κs → AtExit type-key.ended κs → Type 0
-Allowed κs a r e = (r ≡ step (now (a .0) .word) (a .1 .0) .answer) × (now (e .0) ≡ sessionOf (step (now (a .0) .word) (a .1 .0)))
+abbrev pub KeyPost : (κs : Lfts 1) → Args type-key.signature κs → Res type-key.signature κs → AtExit type-key.ended κs → Type 0
+KeyPost κs a r e = (r ≡ step (now (a .0) .word) (a .1 .0) .answer) × (now (e .0) ≡ sessionOf (step (now (a .0) .word) (a .1 .0)))
 
 pub type-key-says : {M : Type 1} (𝓤 : URA M) (H : Heap 𝓤) (A : Atoms 𝓤) (mem : Memory → SProp 𝓤) (run : Routine → Fun 𝓤) (κs : Lfts 1) (a : Args type-key.signature κs) (r : Res type-key.signature κs) (e : AtExit type-key.ended κs)
-    → type-key.clauses 𝓤 H A mem run κs a .ensures tt r e ≡ fact 𝓤 (Allowed κs a r e)
+    → type-key.clauses 𝓤 H A mem run κs a .ensures tt r e ≡ fact 𝓤 (KeyPost κs a r e)
 type-key-says 𝓤 H A mem run κs a r e = refl
 
-pub type-key-one : (κs : Lfts 1) (a : Args type-key.signature κs) (r r′ : Res type-key.signature κs) (e e′ : AtExit type-key.ended κs) → Allowed κs a r e → Allowed κs a r′ e′ → (r ≡ r′) × (now (e .0) ≡ now (e′ .0))
+pub type-key-one : (κs : Lfts 1) (a : Args type-key.signature κs) (r r′ : Res type-key.signature κs) (e e′ : AtExit type-key.ended κs) → KeyPost κs a r e → KeyPost κs a r′ e′ → (r ≡ r′) × (now (e .0) ≡ now (e′ .0))
 type-key-one κs a r r′ e e′ p p′ = (p .0 ∙ sym (p′ .0), p .1 ∙ sym (p′ .1))
 
 -- a refused key: the session at exit is the session at entry
-pub refused-unchanged : (κs : Lfts 1) (a : Args type-key.signature κs) (r : Res type-key.signature κs) (e : AtExit type-key.ended κs) (x : Refusal) → Allowed κs a r e → stepSays r ≡ refusing x → now (e .0) ≡ now (a .0)
+pub refused-unchanged : (κs : Lfts 1) (a : Args type-key.signature κs) (r : Res type-key.signature κs) (e : AtExit type-key.ended κs) (x : Refusal) → KeyPost κs a r e → stepSays r ≡ refusing x → now (e .0) ≡ now (a .0)
 refused-unchanged κs a r e x p h =
     p .1 ∙ ap (λ (w : Word). record { word = w }) (refused-step (now (a .0) .word) (a .1 .0) x (ap stepSays (sym (p .0)) ∙ h))

@@ -12,7 +12,7 @@ use Rattle.rules.specs.KeyRoles.{shaped}
 use Rattle.rules.proofs.Edits.{dee}
 use Rattle.rules.proofs.Tests.{either as or-else, or-l, or-r}
 use Rattle.rules.proofs.Tests.{is-true}
-use Rattle.forms.specs.Forms.{capitals, cased}
+use Rattle.forms.specs.Forms.{capitals, casedAs}
 use Rattle.forms.proofs.KeyCourses.{bare}
 use Rattle.forms.proofs.SomeAndEvery.{and-if, and-so, some-row-so, meet}
 use Rattle.forms.proofs.Cases.{same-cased}
@@ -75,7 +75,7 @@ plain-equal (kept {x = x} {w = w} a) t = ap (_∷_ x) (plain-equal a (and-r (eqb
 plain-equal (bared {x = x} {w = w} a) t =
     ap₂ (λ (sh : ℕ) (v : Letters). shaped sh x ∷ v) (sym (eqb→eq (x .shape) plain (and-l (eqb (x .shape) plain) (allPlain w) t))) (plain-equal a (and-r (eqb (x .shape) plain) (allPlain w) t))
 
-cased-plain : (cs : List Bool) (z : Letters) → allPlain (cased cs z) ≡ allPlain z
+cased-plain : (cs : List Bool) (z : Letters) → allPlain (casedAs cs z) ≡ allPlain z
 cased-plain cs [] = refl
 cased-plain cs (x ∷ z) = ap (λ (b : Bool). eqb (x .shape) plain && b) (cased-plain _ z)
 
@@ -100,7 +100,7 @@ onset-đ c a e = subst (Onset _) (sym e) (go (subst (Agrees _) e a))
 onset-of : {a b : Letters} (z : Letters) → Agrees a b → T (same b z) → T (plainOrĐ z) → Onset a b
 onset-of {a} {b} z g s t =
     or-else (allPlain z) (same z (word "đ")) (λ p. subst (λ (y : Letters). Onset y b) (sym (plain-equal g (same-plain b z s p))) same-onset)
-    (λ d. onset-đ _ g (same-cased b z s ∙ ap (cased (capitals b)) (same-cased z (word "đ") d))) t
+    (λ d. onset-đ _ g (same-cased b z s ∙ ap (casedAs (capitals b)) (same-cased z (word "đ") d))) t
 
 onset : {a b : Letters} → Agrees a b → T (oneOf b initials) → Onset a b
 onset {b = b} g k = let m = meet (same b) plainOrĐ initials k tt in onset-of (m .here) g (m .one) (m .other)

@@ -12,19 +12,19 @@ use Rattle.rules.specs.declared.Act.{Act}
 use Rattle.rules.specs.declared.Role.{Role}
 use Rattle.rules.proofs.Edits.{Alike, end, kept, moved, Good, good, good-shape, good-stroke}
 use Rattle.rules.proofs.Commute.{Acts, by-tone, by-clear, by-shape, by-stroke}
-use Rattle.forms.specs.Forms.{capitals, cased}
+use Rattle.forms.specs.Forms.{capitals, casedAs}
 use Rattle.forms.proofs.Cases.{same-cased}
 
 pub capitals-append : (v w : Letters) → capitals (v ++ w) ≡ capitals v ++ capitals w
 capitals-append [] w = refl
 capitals-append (x ∷ v) w = ap (_∷_ (x .capital)) (capitals-append v w)
 
-cased-self : (w : Letters) → cased (capitals w) w ≡ w
+cased-self : (w : Letters) → casedAs (capitals w) w ≡ w
 cased-self [] = refl
 cased-self (x ∷ w) = ap (_∷_ x) (cased-self w)
 
 pub same-capitals : (v w : Letters) → T (same v w) → capitals v ≡ capitals w → v ≡ w
-same-capitals v w t e = same-cased v w t ∙ ap (λ (c : List Bool). cased c w) e ∙ cased-self w
+same-capitals v w t e = same-cased v w t ∙ ap (λ (c : List Bool). casedAs c w) e ∙ cased-self w
 
 capitals-alike : {changed : ℕ → Bool} {v w : Letters} → Alike changed v w → capitals v ≡ capitals w
 capitals-alike end = refl

@@ -8,13 +8,13 @@ use Rattle.rules.specs.Speller.{read, standardKeys}
 use Rattle.rules.specs.Refusals.{isMode}
 use Rattle.rules.specs.WhatComesBack.{keysOf}
 use Rattle.rules.specs.Syllables.{Syllable, openWord}
-use Rattle.forms.specs.Spelling.{Gives, SpelledBack}
+use Rattle.forms.specs.Spelling.{Gives, SpelledAgain}
 use Rattle.forms.proofs.StandardList.{standard-list, one-list}
 use Rattle.forms.proofs.ReadBack.{reads-back}
 use Rattle.forms.proofs.Signs.{letters-back, signs-known, tones-back}
 use Rattle.forms.proofs.Faults.{no-fault}
 
-pub round-trip : (m : ℕ) → T (isMode m) → (w : Letters) (t : ℕ) → Syllable w t → SpelledBack m w t
+pub round-trip : (m : ℕ) → T (isMode m) → (w : Letters) (t : ℕ) → Syllable w t → SpelledAgain m w t
 round-trip m mode w t s =
     let e = reads-back (signs w t) (signs-known w t s) in
     let k = ap (keysOf m) e ∙ ap₂ (standardKeys m) (letters-back w t) (tones-back w t s .tone) in

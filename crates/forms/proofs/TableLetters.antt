@@ -7,7 +7,7 @@ use lib.Dec.{T}
 use lib.Ieee.Fits.{and-i, and-l, and-r}
 use Rattle.rules.specs.Letters.{Letters, same, oneOf}
 use Rattle.rules.specs.TakingApart.{initial, nucleus, final, initials, finals, rows, takes, stands, isThis, listed, verdict}
-use Rattle.forms.specs.Forms.{capitals, otherCases, cased, every}
+use Rattle.forms.specs.Forms.{capitals, otherCases, casedAs, every}
 use Rattle.forms.proofs.SomeAndEvery.{and-if, meet, everyRow, meetRow}
 use Rattle.forms.proofs.Cases.{same-cased}
 use Rattle.forms.proofs.Bridge.{passed, parts}
@@ -19,9 +19,9 @@ eachLetter g (x ∷ xs) = g (x .base) (x .shape) && eachLetter g xs
 each-same : (g : ℕ → ℕ → Bool) (w z : Letters) → T (same w z) → T (eachLetter g z) → T (eachLetter g w)
 each-same g w z t h = subst (λ (y : Letters). T (eachLetter g y)) (sym (same-cased w z t)) (go (capitals w) z h)
   where
-    go : (cs : List Bool) (z : Letters) → T (eachLetter g z) → T (eachLetter g (cased cs z))
+    go : (cs : List Bool) (z : Letters) → T (eachLetter g z) → T (eachLetter g (casedAs cs z))
     go cs [] h = tt
-    go cs (x ∷ z) h = and-i (g (x .base) (x .shape)) (eachLetter g (cased (otherCases cs) z)) (and-l (g (x .base) (x .shape)) (eachLetter g z) h) (go (otherCases cs) z (and-r (g (x .base) (x .shape)) (eachLetter g z) h))
+    go cs (x ∷ z) h = and-i (g (x .base) (x .shape)) (eachLetter g (casedAs (otherCases cs) z)) (and-l (g (x .base) (x .shape)) (eachLetter g z) h) (go (otherCases cs) z (and-r (g (x .base) (x .shape)) (eachLetter g z) h))
 
 each-of : (g : ℕ → ℕ → Bool) (w : Letters) (zs : List Letters) → T (oneOf w zs) → T (every (eachLetter g) zs) → T (eachLetter g w)
 each-of g w zs t h = let m = meet (same w) (eachLetter g) zs t h in each-same g w (m .here) (m .one) (m .other)

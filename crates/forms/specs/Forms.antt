@@ -47,9 +47,9 @@ abbrev pub otherCases : List Bool → List Bool
 otherCases [] = []
 otherCases (c ∷ cs) = cs
 
-abbrev pub cased : List Bool → Letters → Letters
-cased cs [] = []
-cased cs (z ∷ zs) = record { base = z .base; shape = z .shape; capital = firstCase cs } ∷ cased (otherCases cs) zs
+abbrev pub casedAs : List Bool → Letters → Letters
+casedAs cs [] = []
+casedAs cs (z ∷ zs) = record { base = z .base; shape = z .shape; capital = firstCase cs } ∷ casedAs (otherCases cs) zs
 
 -- A test passes at each of these forms, in these cases.
 abbrev pub every : (Letters → Bool) → List Letters → Bool
@@ -57,7 +57,7 @@ every f [] = true
 every f (z ∷ zs) = f z && every f zs
 
 abbrev pub inCases : (Letters → Bool) → List Bool → Letters → Bool
-inCases f cs z = f (cased cs z)
+inCases f cs z = f (casedAs cs z)
 
 -- A test passes at every form, in every mix of capitals.
 abbrev pub EveryForm : (Letters → Bool) → Type 0

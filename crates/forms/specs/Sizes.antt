@@ -19,9 +19,9 @@ withTones [] = 0
 withTones (w ∷ ws) = fitting (final w) (noTone ∷ acute ∷ grave ∷ hook ∷ tilde ∷ dot ∷ []) + withTones ws
 
 -- the place of its initial, its nucleus and its final in their lists, as one number
-abbrev pub placeIn : List Letters → Letters → ℕ
-placeIn [] w = 0
-placeIn (z ∷ zs) w = elim (same w z) [ true ↦ 0 | false ↦ suc (placeIn zs w) ]
+abbrev pub listPlace : List Letters → Letters → ℕ
+listPlace [] w = 0
+listPlace (z ∷ zs) w = elim (same w z) [ true ↦ 0 | false ↦ suc (listPlace zs w) ]
 
 abbrev alone : Row → Letters → List Letters
 alone r n = n ∷ []
@@ -30,7 +30,7 @@ abbrev pub nuclei : List Letters
 nuclei = gatherRows alone rows
 
 abbrev pub formNumber : Letters → ℕ
-formNumber w = (placeIn initials (initial w) * length nuclei + placeIn nuclei (nucleus w)) * length finals + placeIn finals (final w)
+formNumber w = (listPlace initials (initial w) * length nuclei + listPlace nuclei (nucleus w)) * length finals + listPlace finals (final w)
 
 -- each has a higher number than the one before
 abbrev pub ascending : ℕ → List Letters → Bool

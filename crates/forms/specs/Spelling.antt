@@ -29,7 +29,7 @@ pub record Gives (m : ℕ) (ks : List ℕ) (w : Letters) (t : ℕ) : Type 0 wher
   pub answered : typeAll m ks ≡ record { answer = AllTyped; word = holding (newWord m) (typed m ks) }
 
 -- The text of a syllable is read as the letters that were shown, with no fault; the keys are the standard list, and typing them gives the syllable again, with the same text.
-pub record SpelledBack (m : ℕ) (w : Letters) (t : ℕ) : Type 0 where
+pub record SpelledAgain (m : ℕ) (w : Letters) (t : ℕ) : Type 0 where
   pub read-as : read (shown (openWord w t)) ≡ reading (signs w t)
   pub faultless : fault (signs w t) ≡ 0
   pub letters : lettersIn (signs w t) ≡ w

@@ -12,7 +12,7 @@ use lib.Seq.{take-at, drop-at, take-all, drop-drop, set-getD}
 use Rattle.rules.specs.Refusals.{all}
 use Rattle.rules.specs.declared.Word.{Word}
 use Rattle.rules.proofs.StaysInRange.{Whole}
-use Rattle.layout.specs.Places.{pairs, numbers, markByte, asBytes, byte, isLong, isMark, wordIn, recordIf, asRecord}
+use Rattle.layout.specs.Places.{pairs, numbers, markByte, asBytes, byte, isLong, isMark, wordFrom, recordIf, asRecord}
 use Rattle.layout.proofs.Pairs.{length-numbers}
 use Rattle.layout.proofs.Answers.{withParts, no-mark, eight}
 
@@ -77,7 +77,7 @@ module _ (bs : List ℕ) (long : length bs ≡ 104) where
   in-order : byte 0 bs ∷ byte 1 bs ∷ byte 2 bs ∷ byte 3 bs ∷ byte 4 bs ∷ byte 5 bs ∷ byte 6 bs ∷ byte 7 bs ∷ drop 8 bs ≡ bs
   in-order = sym (eight (byte 0 bs) (byte 1 bs) (byte 2 bs) (byte 3 bs) (byte 4 bs) (byte 5 bs) (byte 6 bs) (byte 7 bs) bs (omega arith)) ∙ simp set-getD
 
-  written-back : isMark (byte 3 bs) ≡ true → T (all isByte bs) → asBytes (wordIn bs) ≡ bs
+  written-back : isMark (byte 3 bs) ≡ true → T (all isByte bs) → asBytes (wordFrom bs) ≡ bs
   written-back m t =
       let back : length (drop 40 bs) ≡ 64 = simp length-drop (omega arith) in
       let letters = ap (λ (l : List ℕ). pairs (numbers l)) (take-all 64 (drop 40 bs) (omega arith)) ∙ pairs-numbers 32 (drop 40 bs) (omega arith) (all-past 40 bs t) ∙ sym (drop-drop 32 8 bs) in

@@ -32,8 +32,8 @@ asBytes w =
 abbrev pub byte : ℕ → List ℕ → ℕ
 byte place bs = getD bs place 0
 
-abbrev pub wordIn : List ℕ → Word
-wordIn bs =
+abbrev pub wordFrom : List ℕ → Word
+wordFrom bs =
     record {
       mode = byte 0 bs;
       letters = numbers (take 64 (drop 40 bs));
@@ -58,7 +58,7 @@ abbrev pub noRecord : RecordRead
 noRecord = record { is_record = false; word = newWord telex }
 
 abbrev pub recordIf : Bool → List ℕ → RecordRead
-recordIf true bs = record { is_record = true; word = wordIn bs }
+recordIf true bs = record { is_record = true; word = wordFrom bs }
 recordIf false bs = noRecord
 
 unfoldable pub asRecord : List ℕ → RecordRead

@@ -8,7 +8,7 @@ use lib.Ieee.Fits.{and-l, and-r}
 use Rattle.rules.specs.CodePoints.{Sign, sign, alphabet, point, utf8}
 use Rattle.rules.specs.Speller.{Front, noLetter, aLetter}
 use Rattle.letters.specs.Alphabet.{someSign, everySign, sameSign, inAlphabet}
-use Rattle.letters.specs.Rows.{table, letterOf}
+use Rattle.letters.specs.Rows.{pointTable, letterOf}
 use Rattle.letters.specs.Decoding.{found, decoded}
 use Rattle.keys.proofs.Bools.{same-bool}
 
@@ -50,7 +50,7 @@ abbrev decodes : List ℕ → Sign → Bool
 decodes rest s = finds s (decoded (utf8 (point s) ++ rest))
 
 all-decode : (rest : List ℕ) → T (everySign (decodes rest) alphabet)
-unfolding found table letterOf
+unfolding found pointTable letterOf
 all-decode rest = tt
 
 finds-is : (s : Sign) (f : Front) → T (finds s f) → f ≡ aLetter s

@@ -15,7 +15,7 @@ use Rattle.rules.specs.KeyRoles.{isKey, letterOfKey}
 use Rattle.rules.specs.CodePoints.{Sign, sign, capitalPoint, point, utf8}
 use Rattle.rules.specs.Speller.{starts, Front, noLetter, aLetter}
 use Rattle.letters.specs.Alphabet.{inAlphabet}
-use Rattle.letters.specs.Rows.{table, cased, signOf}
+use Rattle.letters.specs.Rows.{pointTable, cased, signOf}
 use Rattle.letters.specs.Decoding.{foundIn, found, followsOn, oneByte, leastLead, InTwo, pointOfTwo, twoBytes, leastPoint, InThree, pointOfThree, threeBytes}
 use Rattle.letters.proofs.Tables.{eachBelow, below}
 use Rattle.letters.proofs.Points.{Right, right-at}
@@ -39,8 +39,8 @@ sought-in c k (p ∷ ps) h =
     go false false e g r s = s
 
 sought : (c : ℕ) → Sought c (found c)
-unfolding found inAlphabet table
-sought c = go (eqb c 0x111) (eqb c 0x110) refl refl (sought-in c 0 table (λ j l. subst (λ (m : ℕ). Right m (getD table j 0)) (omega arith) (right-at j l)))
+unfolding found inAlphabet pointTable
+sought c = go (eqb c 0x111) (eqb c 0x110) refl refl (sought-in c 0 pointTable (λ j l. subst (λ (m : ℕ). Right m (getD pointTable j 0)) (omega arith) (right-at j l)))
   where
     go : (b d : Bool) → eqb c 0x111 ≡ b → eqb c 0x110 ≡ d → {f : Front} → Sought c f
         → Sought c (elim b [ true ↦ aLetter (sign (named (code "đ")) noTone) | false ↦ elim d [ true ↦ aLetter (sign (cased true (named (code "đ"))) noTone) | false ↦ f ] ])

@@ -16,7 +16,7 @@ use Rattle.rules.specs.KeyRoles.{isSmall, isDigit}
 use Rattle.rules.specs.CodePoints.{vowels, sign, smallPoint, capitalPoint, inCase, point, utf8}
 use Rattle.rules.specs.Refusals.{baseAllowed, shapeCarried, noCapitalDigit}
 use Rattle.rules.proofs.Tests.{is-true}
-use Rattle.letters.specs.Rows.{rowIn, rowOf, pointsIn, pointsOf}
+use Rattle.letters.specs.Rows.{vowelRowIn, vowelRow, pointsIn, pointsOf}
 use Rattle.letters.specs.Writing.{isLetter, toneStands, isShaped, pointOr, bytesIf, letterBytes}
 use Rattle.keys.proofs.Bools.{first, second, either, same-bool}
 use Rattle.letters.proofs.Tables.{eachBelow, below}
@@ -70,16 +70,16 @@ module _ (mode n : ℕ) where
 
 -- a number with a row is a letter: computed over those of small letters
 abbrev rowLetter : ℕ → Bool
-rowLetter n = not (ltb (rowOf (letter n)) 12) || (isSmall n || isShaped n)
+rowLetter n = not (ltb (vowelRow (letter n)) 12) || (isSmall n || isShaped n)
 
 all-rows : T (eachBelow rowLetter 2048)
-unfolding rowOf
+unfolding vowelRow
 all-rows = tt
 
-pub row-letter : (n r : ℕ) → n < 4096 → r ≡ rowOf (letter (n % 2048)) → r < 12 → isLetter vni n ≡ true
+pub row-letter : (n r : ℕ) → n < 4096 → r ≡ vowelRow (letter (n % 2048)) → r < 12 → isLetter vni n ≡ true
 row-letter n r h e l =
     let s : ℕ = n % 2048 in
-    let t = either (ltb (rowOf (letter s)) 12) (isSmall s || isShaped s) (below rowLetter 2048 all-rows s (omega arith)) (lt-ltb (rowOf (letter s)) 12 (omega arith)) in
+    let t = either (ltb (vowelRow (letter s)) 12) (isSmall s || isShaped s) (below rowLetter 2048 all-rows s (omega arith)) (lt-ltb (vowelRow (letter s)) 12 (omega arith)) in
     sym (by-number vni n h) ∙ ap (λ (p : Bool). p || isDigit n) (is-true (isSmall s || isShaped s) t)
 
 -- a letter's parts
@@ -118,15 +118,15 @@ or-true : (p : Bool) → p || true ≡ true
 or-true true = refl
 or-true false = refl
 
-pub with-row : (n t r : ℕ) → n < 4096 → t ≤ dot → r ≡ rowOf (letter (n % 2048)) → r < 12
+pub with-row : (n t r : ℕ) → n < 4096 → t ≤ dot → r ≡ vowelRow (letter (n % 2048)) → r < 12
     → inCase (letter n .capital) (getD (pointsOf r) t 0) ≡ pointOr n t
-unfolding rowOf pointsOf
+unfolding vowelRow pointsOf
 with-row n t r b h d l =
     let e = row-letter n r b d l in
-    let q : r ≡ rowIn vowels (letter n) = d ∙ small-row n in
-    let k : rowIn vowels (letter n) < 12 = omega arith in
+    let q : r ≡ vowelRowIn vowels (letter n) = d ∙ small-row n in
+    let k : vowelRowIn vowels (letter n) < 12 = omega arith in
     shown n t (getD (pointsOf r) t 0) e
-    (rw (le-leb t dot h, letter-rowed n e .vowel-is, lt-ltb (rowIn vowels (letter n)) 12 k) (or-true (eqb t noTone)))
+    (rw (le-leb t dot h, letter-rowed n e .vowel-is, lt-ltb (vowelRowIn vowels (letter n)) 12 k) (or-true (eqb t noTone)))
     (ap (λ (i : ℕ). getD (pointsIn vowels i) t 0) q ∙ sym (in-row vowels (letter n) t k))
 
 -- a letter with no row stands with no tone only: đ, or the byte of its base
@@ -136,9 +136,9 @@ pick n b = elim b [ true ↦ 0x111 | false ↦ n % 256 ]
 and-true : {p q : Bool} → p ≡ true → q ≡ true → p && q ≡ true
 and-true e d = rw (e, d)
 
-module _ (n r : ℕ) (e : isLetter vni n ≡ true) (d : r ≡ rowOf (letter (n % 2048))) (l : 12 ≤ r) where
+module _ (n r : ℕ) (e : isLetter vni n ≡ true) (d : r ≡ vowelRow (letter (n % 2048))) (l : 12 ≤ r) where
   no-vowel : vowel (letter n .base) ≡ false
-  no-vowel = letter-rowed n e .vowel-is ∙ le-ltb (rowOf (letter n)) 12 (omega (arith, small-row n))
+  no-vowel = letter-rowed n e .vowel-is ∙ le-ltb (vowelRow (letter n)) 12 (omega (arith, small-row n))
 
   pub no-row-toned : (t : ℕ) → (t ≡ 0 → ⊥) → 0 ≡ pointOr n t
   no-row-toned t h = unstanding n t (go (leb t dot))
@@ -148,7 +148,7 @@ module _ (n r : ℕ) (e : isLetter vni n ≡ true) (d : r ≡ rowOf (letter (n %
       go false = refl
 
   untoned : (p : ℕ) → p ≡ smallPoint [] (letter n) 0 → inCase (letter n .capital) p ≡ pointOr n 0
-  unfolding rowOf
+  unfolding vowelRow
   untoned p q = shown n 0 p e refl (q ∙ sym (in-no-row vowels (letter n) 0 (omega (arith, small-row n))))
 
   pub no-row-stroke : (t : ℕ) → t ≡ 0 → n % 2048 ≡ number (named (code "đ")) → inCase (letter n .capital) 0x111 ≡ pointOr n t

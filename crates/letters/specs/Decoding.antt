@@ -9,7 +9,7 @@ use Rattle.rules.specs.TheWord.{number}
 use Rattle.rules.specs.KeyRoles.{isKey, letterOfKey}
 use Rattle.rules.specs.CodePoints.{sign, capitalPoint}
 use Rattle.rules.specs.Speller.{Front, noLetter, aLetter}
-use Rattle.letters.specs.Rows.{table, cased, signOf}
+use Rattle.letters.specs.Rows.{pointTable, cased, signOf}
 use Rattle.letters.specs.declared.LetterRead.{LetterRead}
 use Rattle.letters.specs.declared.LetterRead.the-variants.{Letter, NoLetter}
 
@@ -26,7 +26,7 @@ unfoldable pub found : ℕ → Front
 found c =
     elim (eqb c (code "đ")) [
       | true ↦ aLetter (sign (named (code "đ")) noTone)
-      | false ↦ elim (eqb c (code "Đ")) [ true ↦ aLetter (sign (cased true (named (code "đ"))) noTone) | false ↦ foundIn c 0 table ]
+      | false ↦ elim (eqb c (code "Đ")) [ true ↦ aLetter (sign (cased true (named (code "đ"))) noTone) | false ↦ foundIn c 0 pointTable ]
     ]
 
 -- a byte that goes on a longer sequence

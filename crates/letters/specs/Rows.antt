@@ -9,16 +9,16 @@ abbrev pub tableOf : List Vowel → List ℕ
 tableOf [] = []
 tableOf (v ∷ vs) = v .points ++ tableOf vs
 
-unfoldable pub table : List ℕ
-table = tableOf vowels
+unfoldable pub pointTable : List ℕ
+pointTable = tableOf vowels
 
 -- the row of a letter, in either case; the number of rows for a letter that is no vowel
-abbrev pub rowIn : List Vowel → Letter → ℕ
-rowIn [] x = 0
-rowIn (v ∷ vs) x = elim (is x (v .letter)) [ true ↦ 0 | false ↦ suc (rowIn vs x) ]
+abbrev pub vowelRowIn : List Vowel → Letter → ℕ
+vowelRowIn [] x = 0
+vowelRowIn (v ∷ vs) x = elim (is x (v .letter)) [ true ↦ 0 | false ↦ suc (vowelRowIn vs x) ]
 
-unfoldable pub rowOf : Letter → ℕ
-rowOf x = rowIn vowels x
+unfoldable pub vowelRow : Letter → ℕ
+vowelRow x = vowelRowIn vowels x
 
 -- the code points of a row, and its letter in lower case
 abbrev pub pointsIn : List Vowel → ℕ → List ℕ

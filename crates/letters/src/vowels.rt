@@ -5,7 +5,7 @@ ghost use mathlib.Core.Bool.{false};
 ghost use lib.ListN.{getD};
 ghost use Rattle.rules.specs.TheWord.{letter as letterOfNumber, number};
 ghost use Rattle.letters.specs.Decoding.{found, readAs};
-ghost use Rattle.letters.specs.Rows.{rowOf, pointsOf, letterOf, cased};
+ghost use Rattle.letters.specs.Rows.{vowelRow, pointsOf, letterOf, cased};
 use crate::CAPITAL_D_STROKE_POINT;
 use crate::D_STROKE;
 use crate::D_STROKE_POINT;
@@ -153,7 +153,7 @@ const POINTS: [u16; ENTRIES] = [
 // The row of a letter, by its number in lower case; the number of rows for a letter that is no vowel.
 pub(crate) fn row(small: u16) -> usize
     requires { ⌜ small < 2048 ⌝ }
-    ensures { λ r. ⌜ r ≡ rowOf (letterOfNumber small) ⌝ }
+    ensures { λ r. ⌜ r ≡ vowelRow (letterOfNumber small) ⌝ }
 {
     match small {
         A => 0,

@@ -34,6 +34,22 @@ use Rattle.lines.proofs.answer_line as answer-line
 use Rattle.lines.proofs.answer_line.Reads as answer-line-reads
 use Rattle.session.proofs.type_key as type-key
 use Rattle.session.proofs.One.{KeyPost, type-key-says}
+use Rattle.felcantuzza.proofs.fz_start as fz-start
+use Rattle.felcantuzza.proofs.fz_start.Reads as fz-start-reads
+use Rattle.felcantuzza.proofs.fz_type as fz-type
+use Rattle.felcantuzza.proofs.fz_type.Reads as fz-type-reads
+use Rattle.felcantuzza.proofs.fz_show as fz-show
+use Rattle.felcantuzza.proofs.fz_show.Reads as fz-show-reads
+use Rattle.felcantuzza.proofs.fz_verdict as fz-verdict
+use Rattle.felcantuzza.proofs.fz_verdict.Reads as fz-verdict-reads
+use Rattle.felcantuzza.proofs.fz_place as fz-place
+use Rattle.felcantuzza.proofs.fz_place.Reads as fz-place-reads
+use Rattle.felcantuzza.proofs.fz_decision as fz-decision
+use Rattle.felcantuzza.proofs.fz_decision.Reads as fz-decision-reads
+use Rattle.felcantuzza.proofs.fz_commit as fz-commit
+use Rattle.felcantuzza.proofs.fz_commit.Reads as fz-commit-reads
+use Rattle.felcantuzza.proofs.fz_spell as fz-spell
+use Rattle.felcantuzza.proofs.fz_spell.Reads as fz-spell-reads
 
 module _ {M : Type 1} (𝓤 : URA M) (H : Heap 𝓤) (A : Atoms 𝓤) (mem : Memory → SProp 𝓤) (run : Routine → Fun 𝓤) where
   pub step-clause : (κs : Lfts 0) (a : Args step.signature κs) (r : Res step.signature κs) (e : AtExit step.ended κs) → step.clauses 𝓤 H A mem run κs a .ensures tt r e ≡ fact 𝓤 (step-reads.Post κs a r e)
@@ -71,3 +87,27 @@ module _ {M : Type 1} (𝓤 : URA M) (H : Heap 𝓤) (A : Atoms 𝓤) (mem : Mem
 
   pub type-key-clause : (κs : Lfts 1) (a : Args type-key.signature κs) (r : Res type-key.signature κs) (e : AtExit type-key.ended κs) → type-key.clauses 𝓤 H A mem run κs a .ensures tt r e ≡ fact 𝓤 (KeyPost κs a r e)
   type-key-clause κs a r e = type-key-says 𝓤 H A mem run κs a r e
+
+  pub fz-start-clause : (κs : Lfts 2) (a : Args fz-start.signature κs) (r : Res fz-start.signature κs) (e : AtExit fz-start.ended κs) → fz-start.clauses 𝓤 H A mem run κs a .ensures tt r e ≡ fact 𝓤 (fz-start-reads.Post κs a r e)
+  fz-start-clause κs a r e = refl
+
+  pub fz-type-clause : (κs : Lfts 2) (a : Args fz-type.signature κs) (r : Res fz-type.signature κs) (e : AtExit fz-type.ended κs) → fz-type.clauses 𝓤 H A mem run κs a .ensures tt r e ≡ fact 𝓤 (fz-type-reads.Post κs a r e)
+  fz-type-clause κs a r e = refl
+
+  pub fz-show-clause : (κs : Lfts 3) (a : Args fz-show.signature κs) (r : Res fz-show.signature κs) (e : AtExit fz-show.ended κs) → fz-show.clauses 𝓤 H A mem run κs a .ensures tt r e ≡ fact 𝓤 (fz-show-reads.Post κs a r e)
+  fz-show-clause κs a r e = refl
+
+  pub fz-verdict-clause : (κs : Lfts 2) (a : Args fz-verdict.signature κs) (r : Res fz-verdict.signature κs) (e : AtExit fz-verdict.ended κs) → fz-verdict.clauses 𝓤 H A mem run κs a .ensures tt r e ≡ fact 𝓤 (fz-verdict-reads.Post κs a r e)
+  fz-verdict-clause κs a r e = refl
+
+  pub fz-place-clause : (κs : Lfts 2) (a : Args fz-place.signature κs) (r : Res fz-place.signature κs) (e : AtExit fz-place.ended κs) → fz-place.clauses 𝓤 H A mem run κs a .ensures tt r e ≡ fact 𝓤 (fz-place-reads.Post κs a r e)
+  fz-place-clause κs a r e = refl
+
+  pub fz-decision-clause : (κs : Lfts 2) (a : Args fz-decision.signature κs) (r : Res fz-decision.signature κs) (e : AtExit fz-decision.ended κs) → fz-decision.clauses 𝓤 H A mem run κs a .ensures tt r e ≡ fact 𝓤 (fz-decision-reads.Post κs a r e)
+  fz-decision-clause κs a r e = refl
+
+  pub fz-commit-clause : (κs : Lfts 3) (a : Args fz-commit.signature κs) (r : Res fz-commit.signature κs) (e : AtExit fz-commit.ended κs) → fz-commit.clauses 𝓤 H A mem run κs a .ensures tt r e ≡ fact 𝓤 (fz-commit-reads.Post κs a r e)
+  fz-commit-clause κs a r e = refl
+
+  pub fz-spell-clause : (κs : Lfts 3) (a : Args fz-spell.signature κs) (r : Res fz-spell.signature κs) (e : AtExit fz-spell.ended κs) → fz-spell.clauses 𝓤 H A mem run κs a .ensures tt r e ≡ fact 𝓤 (fz-spell-reads.Post κs a r e)
+  fz-spell-clause κs a r e = refl

@@ -31,6 +31,7 @@ use Rattle.promises.specs.Contracts.{CommitAllows}
 use Rattle.promises.specs.Exactly.{Exactly, lineCall}
 use Rattle.promises.specs.Demands.{Demand1, Demand2, Tight, Possible, Demands}
 use Rattle.promises.proofs.AsDefined.{started, stepped, typed-as, shown-answer, shown-output, placed, judged, decided, handed-back, asked, spelled-answer, spelled-output, line-answer, line-output, key-answer, key-session}
+use Rattle.promises.proofs.Box.{box-answers, box-tight, box-possible}
 use Rattle.promises.proofs.EachKey.{every-prefix, after-each-key, after-the-list, at-each-key}
 use Rattle.promises.proofs.RoundTrip.{spelled-back, lists-differ, only-syllables}
 use Rattle.promises.proofs.TwoOrders.{first-half}
@@ -114,6 +115,7 @@ demand-1 =
       in-session = λ before after k r a.
           exactly {R = Says × Session} (stepCall (before .word) k) (stepSays r, after) (λ o. (stepSays (stepOr o (before .word) k .answer), record { word = stepOr o (before .word) k .word }))
           (λ i. (stepSays (key-answer a i), key-session a i)) saysOf (λ x. refl) (step-exactly (before .word) k);
+      in-the-box = box-answers;
     }
 
 demand-2 : Demand2
@@ -145,6 +147,7 @@ tight =
       committing = λ m ks text part part′ a b. handed-back a ∙ sym (handed-back b);
       answering-a-line = λ p line before after after′ r r′ a b. (line-answer a ∙ sym (line-answer b), line-output a ∙ sym (line-output b));
       in-session = λ before after after′ k r r′ a b. (key-answer a ∙ sym (key-answer b), key-session a ∙ sym (key-session b));
+      in-the-box = box-tight;
     }
 
 -- where both slices begin at one place, so does the part
@@ -230,6 +233,7 @@ possible =
           post = (refl, refl);
         },
       );
+      in-the-box = box-possible;
     }
 
 pub demands : Demands

@@ -6,5 +6,6 @@ pub mod EachKey
 pub mod EachSyllable
 pub mod RoundTrip
 pub mod Committed
+pub mod Box
 pub mod Demands
 pub mod Clauses

@@ -35,6 +35,7 @@ use Rattle.lines.specs.declared.Program.the-variants.{Drill, Spell}
 use Rattle.session.specs.declared.Session.{Session}
 use Rattle.promises.specs.Contracts.{StartAllows, StepAllows, TypeAllows, ShowAllows, PlaceAllows, VerdictAllows, DecisionAllows, CommitAllows, QuestionAllows, SpellAllows, LineAllows, KeyAllows}
 use Rattle.promises.specs.Exactly.{Exactly, lineCall}
+use Rattle.promises.specs.Box.{BoxAnswers, BoxTight, BoxPossible}
 use Rattle.promises.specs.EachKey.{EveryPrefix, AfterEachKey, AfterTheList, AtEachKey}
 use Rattle.promises.specs.RoundTrip.{SpelledBack, OneList, OnlySyllables}
 use Rattle.promises.specs.TwoOrders.{FirstHalf}
@@ -76,6 +77,8 @@ pub record Demand1 : Type 0 where
   -- the session after a refused key is as it was before
   pub in-session : (before after : Session) (k : ℕ) (r : StepAnswer) → KeyAllows before k r after →
       Exactly {R = Says × Session} (stepCall (before .word) k) (stepSays r, after) (answered (outcomeNumbers (outcomeOf (keyDoes (wordOf (before .word)) k))), record { word = holding (before .word) (type (wordOf (before .word)) k) }) (λ x. (refusing x, before))
+  -- and the calls of the box
+  pub in-the-box : BoxAnswers
 
 -- Demand 2. After each key the letters, tone, tone place, verdict and keep-or-restore decision are those of the rules.
 -- The other way, every valid syllable as shown is spelled, in either mode, into its one standard key list, and typing that list shows the syllable again.
@@ -111,6 +114,7 @@ pub record Tight : Type 0 where
   pub committing : (m : ℕ) (ks text part part′ : List ℕ) → CommitAllows m ks text part → CommitAllows m ks text part′ → part ≡ part′
   pub answering-a-line : (p : Program) (line before after after′ : List ℕ) (r r′ : WriteAnswer) → LineAllows p line before r after → LineAllows p line before r′ after′ → (r ≡ r′) × (after ≡ after′)
   pub in-session : (before after after′ : Session) (k : ℕ) (r r′ : StepAnswer) → KeyAllows before k r after → KeyAllows before k r′ after′ → (r ≡ r′) × (after ≡ after′)
+  pub in-the-box : BoxTight
 
 -- And none is empty: at any arguments the contract allows some result.
 pub record Possible : Type 0 where
@@ -126,6 +130,7 @@ pub record Possible : Type 0 where
   pub committing : (m : ℕ) (ks text : List ℕ) → (part : List ℕ) × CommitAllows m ks text part
   pub answering-a-line : (p : Program) (line before : List ℕ) → (r : WriteAnswer) × (after : List ℕ) × LineAllows p line before r after
   pub in-session : (before : Session) (k : ℕ) → (r : StepAnswer) × (after : Session) × KeyAllows before k r after
+  pub in-the-box : BoxPossible
 
 pub record Demands : Type 0 where
   pub demand-1 : Demand1

@@ -1,5 +1,6 @@
 pub mod Contracts
 pub mod Exactly
+pub mod Box
 pub mod TwoOrders
 pub mod EachKey
 pub mod EachSyllable

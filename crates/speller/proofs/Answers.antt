@@ -17,7 +17,7 @@ use Rattle.rules.specs.WhatComesBack.{Written, spell}
 use Rattle.rules.specs.declared.WriteAnswer.{WriteAnswer}
 use Rattle.output.specs.Front.{put}
 use Rattle.speller.specs.declared.ReadSoFar.{ReadSoFar}
-use Rattle.speller.specs.TextRead.{haveCapitals, ReadInto, refusedOf}
+use Rattle.speller.specs.TextRead.{haveCapitals, ReadInto, refusedWrite}
 
 -- the letters that are read: the part of the array from 0 on is its front
 module _ {text ns : List ℕ} {r : ReadSoFar} (into : ReadInto text ns r) where
@@ -35,9 +35,9 @@ module _ {text ns : List ℕ} {r : ReadSoFar} (into : ReadInto text ns r) where
 
 -- a refusal leaves the output as it was
 abbrev unwritten : ℕ → ℕ → List ℕ → Written
-unwritten n v out = record { answer = refusedOf n v; output = out }
+unwritten n v out = record { answer = refusedWrite n v; output = out }
 
-pub refuses : {w : Written} {n v : ℕ} {out : List ℕ} {a : WriteAnswer} → a ≡ refusedOf n v → w ≡ unwritten n v out → (a ≡ w .answer) × (out ≡ w .output)
+pub refuses : {w : Written} {n v : ℕ} {out : List ℕ} {a : WriteAnswer} → a ≡ refusedWrite n v → w ≡ unwritten n v out → (a ≡ w .answer) × (out ≡ w .output)
 refuses e k = (e ∙ sym (ap (λ (x : Written). x .answer) k), sym (ap (λ (x : Written). x .output) k))
 
 module _ (m : ℕ) (text out : List ℕ) where

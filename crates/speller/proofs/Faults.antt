@@ -13,16 +13,16 @@ use Rattle.rules.specs.CodePoints.{Sign, withoutTone, signsAt, signs}
 use Rattle.rules.specs.Speller.{lettersIn, tonesIn, firstTone, toneIn, twoTones, sameTones, fault}
 use Rattle.rules.specs.declared.Place.{Place}
 use Rattle.rules.specs.declared.Place.the-variants.{At, Nowhere}
-use Rattle.speller.specs.TextRead.{oneOn, placeIn, samePlace}
+use Rattle.speller.specs.TextRead.{oneOn, tonePlaceIn, samePlace}
 use Rattle.speller.proofs.Tones.{tonesIf, placeIf, none-carried}
 
 -- with no tone on any letter
-none-there : (ss : List Sign) → tonesIn ss ≡ [] → (sameTones ss (withoutTone (lettersIn ss)) ≡ true) × (placeIn ss ≡ Nowhere)
+none-there : (ss : List Sign) → tonesIn ss ≡ [] → (sameTones ss (withoutTone (lettersIn ss)) ≡ true) × (tonePlaceIn ss ≡ Nowhere)
 none-there [] e = (refl, refl)
 none-there (s ∷ ss) e = go (eqb (s .tone) noTone) (none-there ss) e
   where
-    go : (b : Bool) → (tonesIn ss ≡ [] → (sameTones ss (withoutTone (lettersIn ss)) ≡ true) × (placeIn ss ≡ Nowhere)) → tonesIf b (s .tone) (tonesIn ss) ≡ []
-        → (b && sameTones ss (withoutTone (lettersIn ss)) ≡ true) × (placeIf b (placeIn ss) ≡ Nowhere)
+    go : (b : Bool) → (tonesIn ss ≡ [] → (sameTones ss (withoutTone (lettersIn ss)) ≡ true) × (tonePlaceIn ss ≡ Nowhere)) → tonesIf b (s .tone) (tonesIn ss) ≡ []
+        → (b && sameTones ss (withoutTone (lettersIn ss)) ≡ true) × (placeIf b (tonePlaceIn ss) ≡ Nowhere)
     go true f h = (f h .0, ap oneOn (f h .1))
     go false f h = let z : _≡_ {A = ℕ} 0 1 = cc in absurd (omega arith)
 
@@ -44,15 +44,15 @@ on-next (At m) n = sym (eqb·suc-suc m n)
 on-next Nowhere n = refl
 
 -- with a tone on one letter
-one-there : (ss : List Sign) (t : ℕ) → tonesIn ss ≡ t ∷ [] → (p : Place) → sameTones ss (signsAt p t (lettersIn ss)) ≡ samePlace (placeIn ss) p
+one-there : (ss : List Sign) (t : ℕ) → tonesIn ss ≡ t ∷ [] → (p : Place) → sameTones ss (signsAt p t (lettersIn ss)) ≡ samePlace (tonePlaceIn ss) p
 one-there [] t e p = let z : _≡_ {A = ℕ} 0 1 = cc in absurd (omega arith)
 one-there (s ∷ ss) t e p = go (eqb (s .tone) noTone) refl e p (one-there ss t)
   where
-    silent : s .tone ≡ noTone → (t ≡ noTone → ⊥) → (p : Place) → ((q : Place) → sameTones ss (signsAt q t (lettersIn ss)) ≡ samePlace (placeIn ss) q)
-        → sameTones (s ∷ ss) (signsAt p t (lettersIn (s ∷ ss))) ≡ samePlace (oneOn (placeIn ss)) p
-    silent z n Nowhere f = ap₂ _&&_ (eq-eqb (s .tone) noTone z) (f Nowhere) ∙ on-nowhere (placeIn ss)
-    silent z n (At zero) f = ap (λ (b : Bool). b && sameTones ss (withoutTone (lettersIn ss))) (ne-eqb (s .tone) t (λ k. n (sym k ∙ z))) ∙ on-first (placeIn ss)
-    silent z n (At (suc m)) f = ap₂ _&&_ (eq-eqb (s .tone) noTone z) (f (At m)) ∙ on-next (placeIn ss) m
+    silent : s .tone ≡ noTone → (t ≡ noTone → ⊥) → (p : Place) → ((q : Place) → sameTones ss (signsAt q t (lettersIn ss)) ≡ samePlace (tonePlaceIn ss) q)
+        → sameTones (s ∷ ss) (signsAt p t (lettersIn (s ∷ ss))) ≡ samePlace (oneOn (tonePlaceIn ss)) p
+    silent z n Nowhere f = ap₂ _&&_ (eq-eqb (s .tone) noTone z) (f Nowhere) ∙ on-nowhere (tonePlaceIn ss)
+    silent z n (At zero) f = ap (λ (b : Bool). b && sameTones ss (withoutTone (lettersIn ss))) (ne-eqb (s .tone) t (λ k. n (sym k ∙ z))) ∙ on-first (tonePlaceIn ss)
+    silent z n (At (suc m)) f = ap₂ _&&_ (eq-eqb (s .tone) noTone z) (f (At m)) ∙ on-next (tonePlaceIn ss) m
 
     loud : (s .tone ≡ noTone → ⊥) → s .tone ≡ t → tonesIn ss ≡ [] → (p : Place) → sameTones (s ∷ ss) (signsAt p t (lettersIn (s ∷ ss))) ≡ samePlace (At 0) p
     loud n k h Nowhere = ap (λ (b : Bool). b && sameTones ss (withoutTone (lettersIn ss))) (ne-eqb (s .tone) noTone n)
@@ -60,8 +60,8 @@ one-there (s ∷ ss) t e p = go (eqb (s .tone) noTone) refl e p (one-there ss t)
     loud n k h (At (suc m)) = ap (λ (b : Bool). b && sameTones ss (signsAt (At m) t (lettersIn ss))) (ne-eqb (s .tone) noTone n) ∙ sym (eqb·zero-suc m)
 
     go : (b : Bool) → eqb (s .tone) noTone ≡ b → tonesIf b (s .tone) (tonesIn ss) ≡ t ∷ [] → (p : Place)
-        → (tonesIn ss ≡ t ∷ [] → (q : Place) → sameTones ss (signsAt q t (lettersIn ss)) ≡ samePlace (placeIn ss) q)
-        → sameTones (s ∷ ss) (signsAt p t (lettersIn (s ∷ ss))) ≡ samePlace (placeIf b (placeIn ss)) p
+        → (tonesIn ss ≡ t ∷ [] → (q : Place) → sameTones ss (signsAt q t (lettersIn ss)) ≡ samePlace (tonePlaceIn ss) q)
+        → sameTones (s ∷ ss) (signsAt p t (lettersIn (s ∷ ss))) ≡ samePlace (placeIf b (tonePlaceIn ss)) p
     go true k h p f = silent (eqb-true (s .tone) noTone k) (carried ss t [] h) p (f h)
     go false k h p f = loud (eqb-false (s .tone) noTone k) (cc) (cc) p
 
@@ -70,10 +70,10 @@ no-place : (w : Letters) → tonePlace w noTone ≡ Nowhere
 unfolding tonePlace
 no-place w = refl
 
-stands : (ss : List Sign) → twoTones (tonesIn ss) ≡ false → sameTones ss (signs (lettersIn ss) (toneIn ss)) ≡ samePlace (placeIn ss) (tonePlace (lettersIn ss) (toneIn ss))
+stands : (ss : List Sign) → twoTones (tonesIn ss) ≡ false → sameTones ss (signs (lettersIn ss) (toneIn ss)) ≡ samePlace (tonePlaceIn ss) (tonePlace (lettersIn ss) (toneIn ss))
 stands ss two = go (tonesIn ss) refl two
   where
-    go : (ts : List ℕ) → tonesIn ss ≡ ts → twoTones ts ≡ false → sameTones ss (signs (lettersIn ss) (firstTone ts)) ≡ samePlace (placeIn ss) (tonePlace (lettersIn ss) (firstTone ts))
+    go : (ts : List ℕ) → tonesIn ss ≡ ts → twoTones ts ≡ false → sameTones ss (signs (lettersIn ss) (firstTone ts)) ≡ samePlace (tonePlaceIn ss) (tonePlace (lettersIn ss) (firstTone ts))
     go [] e h =
         let none = none-there ss e in
         ap (λ (p : Place). sameTones ss (signsAt p noTone (lettersIn ss))) (no-place (lettersIn ss)) ∙ none .0 ∙
@@ -95,7 +95,7 @@ module _ (ss : List Sign) where
   pub judged : twoTones (tonesIn ss) ≡ false → (asked ≡ 0 → ⊥) → asked ≡ fault ss
   judged e n = sym (ap₂ (λ (b c : Bool). faultIf b c (sameTones ss (signs (lettersIn ss) (toneIn ss))) asked) e (ne-eqb asked 0 n))
 
-  pub placed : twoTones (tonesIn ss) ≡ false → asked ≡ 0 → (b : Bool) → samePlace (placeIn ss) (tonePlace (lettersIn ss) (toneIn ss)) ≡ b → elim b [ true ↦ 0 | false ↦ 9 ] ≡ fault ss
+  pub placed : twoTones (tonesIn ss) ≡ false → asked ≡ 0 → (b : Bool) → samePlace (tonePlaceIn ss) (tonePlace (lettersIn ss) (toneIn ss)) ≡ b → elim b [ true ↦ 0 | false ↦ 9 ] ≡ fault ss
   placed e z b h =
       let c = eq-eqb asked 0 z in
       let d = stands ss e ∙ h in

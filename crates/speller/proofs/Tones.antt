@@ -13,7 +13,7 @@ use Rattle.rules.specs.Speller.{tonesIn, firstTone, toneIn, twoTones}
 use Rattle.rules.specs.declared.Place.{Place}
 use Rattle.rules.specs.declared.Place.the-variants.{At, Nowhere}
 use Rattle.speller.specs.declared.ReadSoFar.{ReadSoFar}
-use Rattle.speller.specs.TextRead.{oneOn, placeIn, readingOf}
+use Rattle.speller.specs.TextRead.{oneOn, tonePlaceIn, readingOf}
 
 -- one letter in front of others
 abbrev pub tonesIf : Bool → ℕ → List ℕ → List ℕ
@@ -28,7 +28,7 @@ module _ (s : Sign) (e : s .tone ≡ noTone) where
   still-tones [] = ap (λ (t : ℕ). tonesIf (eqb t noTone) t []) e
   still-tones (x ∷ ss) = ap (tonesIf (eqb (x .tone) noTone) (x .tone)) (still-tones ss)
 
-  still-place : (ss : List Sign) → placeIn (ss ++ (s ∷ [])) ≡ placeIn ss
+  still-place : (ss : List Sign) → tonePlaceIn (ss ++ (s ∷ [])) ≡ tonePlaceIn ss
   still-place [] = ap (λ (t : ℕ). placeIf (eqb t noTone) Nowhere) e
   still-place (x ∷ ss) = ap (placeIf (eqb (x .tone) noTone)) (still-place ss)
 
@@ -42,21 +42,21 @@ module _ (s : Sign) (e : s .tone ≡ noTone → ⊥) where
       go true = refl
       go false = refl
 
-  first-place : (ss : List Sign) → tonesIn ss ≡ [] → placeIn (ss ++ (s ∷ [])) ≡ At (length ss)
+  first-place : (ss : List Sign) → tonesIn ss ≡ [] → tonePlaceIn (ss ++ (s ∷ [])) ≡ At (length ss)
   first-place [] h = ap (λ (b : Bool). placeIf b Nowhere) (ne-eqb (s .tone) noTone e)
   first-place (x ∷ ss) h = go (eqb (x .tone) noTone) (first-place ss) h
     where
-      go : (b : Bool) → (tonesIn ss ≡ [] → placeIn (ss ++ (s ∷ [])) ≡ At (length ss)) → tonesIf b (x .tone) (tonesIn ss) ≡ [] → placeIf b (placeIn (ss ++ (s ∷ []))) ≡ At (suc (length ss))
+      go : (b : Bool) → (tonesIn ss ≡ [] → tonePlaceIn (ss ++ (s ∷ [])) ≡ At (length ss)) → tonesIf b (x .tone) (tonesIn ss) ≡ [] → placeIf b (tonePlaceIn (ss ++ (s ∷ []))) ≡ At (suc (length ss))
       go true f k = ap oneOn (f k)
       go false f k = let z : _≡_ {A = ℕ} 0 1 = cc in absurd (omega arith)
 
 -- behind a letter that carries a tone
-place-stays : (ss : List Sign) (s : Sign) → (toneIn ss ≡ noTone → ⊥) → placeIn (ss ++ (s ∷ [])) ≡ placeIn ss
+place-stays : (ss : List Sign) (s : Sign) → (toneIn ss ≡ noTone → ⊥) → tonePlaceIn (ss ++ (s ∷ [])) ≡ tonePlaceIn ss
 place-stays [] s h = absurd (h refl)
 place-stays (x ∷ ss) s h = go (eqb (x .tone) noTone) (place-stays ss s) h
   where
-    go : (b : Bool) → ((toneIn ss ≡ noTone → ⊥) → placeIn (ss ++ (s ∷ [])) ≡ placeIn ss) → (firstTone (tonesIf b (x .tone) (tonesIn ss)) ≡ noTone → ⊥)
-        → placeIf b (placeIn (ss ++ (s ∷ []))) ≡ placeIf b (placeIn ss)
+    go : (b : Bool) → ((toneIn ss ≡ noTone → ⊥) → tonePlaceIn (ss ++ (s ∷ [])) ≡ tonePlaceIn ss) → (firstTone (tonesIf b (x .tone) (tonesIn ss)) ≡ noTone → ⊥)
+        → placeIf b (tonePlaceIn (ss ++ (s ∷ []))) ≡ placeIf b (tonePlaceIn ss)
     go true f k = ap oneOn (f k)
     go false f k = refl
 

@@ -20,9 +20,9 @@ abbrev pub oneOn : Place → Place
 oneOn (At n) = At (suc n)
 oneOn Nowhere = Nowhere
 
-abbrev pub placeIn : List Sign → Place
-placeIn [] = Nowhere
-placeIn (s ∷ ss) = elim (eqb (s .tone) noTone) [ true ↦ oneOn (placeIn ss) | false ↦ At 0 ]
+abbrev pub tonePlaceIn : List Sign → Place
+tonePlaceIn [] = Nowhere
+tonePlaceIn (s ∷ ss) = elim (eqb (s .tone) noTone) [ true ↦ oneOn (tonePlaceIn ss) | false ↦ At 0 ]
 
 abbrev pub samePlace : Place → Place → Bool
 samePlace (At m) (At n) = eqb m n
@@ -32,7 +32,7 @@ samePlace Nowhere Nowhere = true
 
 -- the reading after these letters, so many bytes into the text
 abbrev pub readingOf : ℕ → List Sign → ReadSoFar
-readingOf at ss = record { at = at; count = length ss; tone = toneIn ss; place = placeIn ss; twice = twoTones (tonesIn ss) }
+readingOf at ss = record { at = at; count = length ss; tone = toneIn ss; place = tonePlaceIn ss; twice = twoTones (tonesIn ss) }
 
 -- letters that have a capital 32 below them
 abbrev pub haveCapitals : Letters → Bool
@@ -62,5 +62,5 @@ abbrev pub firstAwaitsO : Letters → Bool
 firstAwaitsO [] = false
 firstAwaitsO (x ∷ xs) = awaitsO x xs
 
-abbrev pub refusedOf : ℕ → ℕ → WriteAnswer
-refusedOf n v = Refused (record { number = n; value = v })
+abbrev pub refusedWrite : ℕ → ℕ → WriteAnswer
+refusedWrite n v = Refused (record { number = n; value = v })

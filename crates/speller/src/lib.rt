@@ -9,7 +9,7 @@ ghost use Rattle.rules.specs.TheWord.{mostBytes, letter};
 ghost use Rattle.rules.specs.CodePoints.{Sign};
 ghost use Rattle.rules.specs.Speller.{keyOfLetter, shapeKey, toneKey, standardKeys, lettersIn, fault as faultOf};
 ghost use Rattle.rules.specs.WhatComesBack.{spell as spellOf};
-ghost use Rattle.speller.specs.TextRead.{readingOf, haveCapitals, ReadInto, samePlace, keysFrom, firstAwaitsO, refusedOf};
+ghost use Rattle.speller.specs.TextRead.{readingOf, haveCapitals, ReadInto, samePlace, keysFrom, firstAwaitsO, refusedWrite};
 use letters::LetterRead;
 use rules::ACUTE;
 use rules::BREVE;
@@ -233,7 +233,7 @@ fn put_standard_keys(mode: u8, letters: &[u16], tone: u8, keys: &mut [u8]) -> us
 }
 
 fn refused(number: u8, value: usize) -> WriteAnswer
-    ensures { λ r. ⌜ r ≡ refusedOf number value ⌝ }
+    ensures { λ r. ⌜ r ≡ refusedWrite number value ⌝ }
 {
     WriteAnswer::Refused(Refusal {
         number: number,

@@ -26,7 +26,7 @@ use Rattle.step.specs.declared.Edit.the-variants.{Nothing, Off, Change}
 use Rattle.step.specs.declared.Rest.{Rest}
 use Rattle.step.specs.declared.Counts.{Counts}
 use Rattle.step.specs.declared.Done as Answer
-use Rattle.step.specs.LentLetters.{LettersInFront, RoomForLetter, LeavesState, DoesAsRuled, Edits, kindOf, editedIn, stateIn, afterEdit, withTone, countedIn}
+use Rattle.step.specs.LentLetters.{LettersInFront, RoomForLetter, LeavesState, DoesAsRuled, Edits, kindOf, editedIn, stateIn, afterEdit, restWithTone, countedIn}
 use Rattle.step.proofs.Edit as Kinds
 use Rattle.step.proofs.Arrays.{within, added, front-letters, front-canonical}
 
@@ -43,8 +43,8 @@ module _ (l : List ℕ) (rest : Rest) (given : LettersInFront l (rest .count)) w
   pub same : LeavesState (stateIn l rest) l rest l
   same = record { beside = λ i. record { count = sym letters-read i; tone = rest .tone; closed = rest .closed }; left = sym same-array }
 
-  pub tones : (t : ℕ) {r : Rest} → r ≡ withTone rest t → LeavesState (Rules.withTone (stateIn l rest) t) l r l
-  tones t e = record { beside = e ∙ ap (λ (x : Rest). withTone x t) (same .beside); left = same .left }
+  pub tones : (t : ℕ) {r : Rest} → r ≡ restWithTone rest t → LeavesState (Rules.withTone (stateIn l rest) t) l r l
+  tones t e = record { beside = e ∙ ap (λ (x : Rest). restWithTone x t) (same .beside); left = same .left }
 
 -- a letter more
 module _ (l : List ℕ) (rest : Rest) (room : RoomForLetter l (rest .count)) where

@@ -72,16 +72,16 @@ stateIn l r = record { letters = map letter (take (r .count) l); tone = r .tone;
 abbrev pub restOf : State → Rest
 restOf s = record { count = length (s .letters); tone = s .tone; closed = s .closed }
 
-abbrev pub lettersIn : List ℕ → State → List ℕ
-lettersIn l s = atFront (map number (s .letters)) l
+abbrev pub lettersLeft : List ℕ → State → List ℕ
+lettersLeft l s = atFront (map number (s .letters)) l
 
 pub record LeavesState (s : State) (old : List ℕ) (r : Rest) (new : List ℕ) : Type 0 where
   pub beside : r ≡ restOf s
-  pub left : new ≡ lettersIn old s
+  pub left : new ≡ lettersLeft old s
 
 pub record DoesAsRuled (d : Done) (old : List ℕ) (r : Answer.Done) (new : List ℕ) : Type 0 where
   pub told : r ≡ record { outcome = outcomeOf d; rest = restOf (stateOf d) }
-  pub left : new ≡ lettersIn old (stateOf d)
+  pub left : new ≡ lettersLeft old (stateOf d)
 
 -- what a key does once the letters are edited
 abbrev pub afterEdit : Edit → State → Letter → Done
@@ -89,8 +89,8 @@ afterEdit Nothing s k = appended (append s k)
 afterEdit Off s k = undone (undo s k)
 afterEdit (Change a) s k = acted a s
 
-abbrev pub withTone : Rest → ℕ → Rest
-withTone r t = record { count = r .count; tone = t; closed = r .closed }
+abbrev pub restWithTone : Rest → ℕ → Rest
+restWithTone r t = record { count = r .count; tone = t; closed = r .closed }
 
 -- one count raised by what a key did
 abbrev pub countedIn : Counts → Outcome → Counts
@@ -102,5 +102,5 @@ unlessClosedRole true r = NoRole
 unlessClosedRole false r = r
 
 -- the step's answer where it is refused
-abbrev pub refusedOf : Numbers → ℕ → ℕ → StepIn
-refusedOf n number value = record { answer = Refused (record { number = number; value = value }); numbers = n }
+abbrev pub refusedStep : Numbers → ℕ → ℕ → StepIn
+refusedStep n number value = record { answer = Refused (record { number = number; value = value }); numbers = n }

@@ -18,7 +18,7 @@ ghost use Rattle.rules.specs.KeyRoles.{letterOfKey, append as appendOf, undo as
 ghost use Rattle.rules.specs.Refusals.{outOfRange};
 ghost use Rattle.rules.specs.LettersOfAMode.{AllFine};
 ghost use Rattle.rules.specs.WhatComesBack.{step as stepOf};
-ghost use Rattle.step.specs.LentLetters.{RoomForLetter, LeavesState, DoesAsRuled, stateIn, afterEdit, withTone, countedIn, unlessClosedRole, refusedOf};
+ghost use Rattle.step.specs.LentLetters.{RoomForLetter, LeavesState, DoesAsRuled, stateIn, afterEdit, restWithTone, countedIn, unlessClosedRole, refusedStep};
 ghost use Rattle.step.specs.LentWord.{stepIn};
 ghost use Rattle.records.specs.Numbers.{wordIn};
 
@@ -85,7 +85,7 @@ fn undone(letters: &mut [u16], rest: Rest, key: u8) -> Done
 }
 
 fn with_tone(rest: Rest, tone: u8) -> Rest
-    ensures { λ r. ⌜ r ≡ withTone rest tone ⌝ }
+    ensures { λ r. ⌜ r ≡ restWithTone rest tone ⌝ }
 {
     Rest {
         count: rest.count,
@@ -240,7 +240,7 @@ fn typed(letters: &mut [u16], keys: &mut [u8], mode: u8, n: Numbers, key: u8) ->
 }
 
 fn refused(n: Numbers, number: u8, value: usize) -> StepIn
-    ensures { λ r. ⌜ r ≡ refusedOf n number value ⌝ }
+    ensures { λ r. ⌜ r ≡ refusedStep n number value ⌝ }
 {
     StepIn {
         answer: StepAnswer::Refused(Refusal {

@@ -9,7 +9,7 @@ use Rattle.rules.specs.Letters.{Letters, plain, is, same, someWord, isNil, oneO
 use Rattle.rules.specs.TakingApart.{initial, nucleus, final, leftovers, initials, finals, fit, Row, rows, takes, stands, someRow, isThis, listed, fits, Check, check, firstThatHolds, agreesAt, agrees, couldBe, someAgrees, admitted}
 use Rattle.rules.specs.KeyRoles.{toneGoes}
 use Rattle.rules.proofs.Tests.{is-true, or-r}
-use Rattle.syllable.specs.Checks.{initialFault, sixth, asked}
+use Rattle.syllable.specs.Checks.{initialFault, sixth, firstFault}
 use Rattle.parts.proofs.Bools.{pick, ifSo}
 
 -- what passes a stronger test passes a weaker one
@@ -58,8 +58,8 @@ abbrev pub faultOf : Letters → ℕ
 faultOf w = initialFault (initial w) (firstBase (nucleus w))
 
 pub answered : (w : Letters) (tone : ℕ) (free : Bool) {one two three four five six seven : Bool} → one ≡ isNil (nucleus w) → two ≡ eqb (faultOf w) 2 → three ≡ not (isNil (leftovers w)) → four ≡ eqb (faultOf w) 4 → five ≡ not (oneOf (final w) finals) → six ≡ not (sixth free w) → seven ≡ not (fits (final w) tone) →
-    firstThatHolds (check 1 one ∷ check 2 two ∷ check 3 three ∷ check 4 four ∷ check 5 five ∷ check 6 six ∷ check 7 seven ∷ []) ≡ asked w tone free
-unfolding asked
+    firstThatHolds (check 1 one ∷ check 2 two ∷ check 3 three ∷ check 4 four ∷ check 5 five ∷ check 6 six ∷ check 7 seven ∷ []) ≡ firstFault w tone free
+unfolding firstFault
 answered w tone free a b c d e f g =
     (λ j. firstThatHolds (check 1 (a j) ∷ check 2 (b j) ∷ check 3 (c j) ∷ check 4 (d j) ∷ check 5 (e j) ∷ check 6 (f j) ∷ check 7 (g j) ∷ [])) ∙ by-fault (isNil (nucleus w)) (not (oneOf (initial w) initials)) (not (isNil (leftovers w))) (not (fit (initial w) (firstBase (nucleus w)))) (check 5 (not (oneOf (final w) finals)) ∷ check 6 (not (sixth free w)) ∷ check 7 (not (fits (final w) tone)) ∷ [])
 
@@ -75,7 +75,7 @@ all-pass false false false false false false t = refl
 all-pass false false false false false true true = refl
 all-pass false false false false false true false = refl
 
-pub free-goes : (w : Letters) (tone : ℕ) → eqb (asked w tone true) 0 ≡ toneGoes tone w
-unfolding admitted asked
+pub free-goes : (w : Letters) (tone : ℕ) → eqb (firstFault w tone true) 0 ≡ toneGoes tone w
+unfolding admitted firstFault
 free-goes w tone =
     all-pass (isNil (nucleus w)) (not (oneOf (initial w) initials)) (not (isNil (leftovers w))) (not (fit (initial w) (firstBase (nucleus w)))) (not (oneOf (final w) finals)) (someAgrees (initial w) (nucleus w) (final w)) (fits (final w) tone)

@@ -15,5 +15,5 @@ sixth true w = someAgrees (initial w) (nucleus w) (final w)
 sixth false w = listed (initial w) (nucleus w) (final w)
 
 -- the first check that holds, or 0
-unfoldable pub asked : Letters → (tone : ℕ) → (free : Bool) → ℕ
-asked w tone free = firstThatHolds (oneToFive w ++ sixAndSeven (sixth free w) w tone)
+unfoldable pub firstFault : Letters → (tone : ℕ) → (free : Bool) → ℕ
+firstFault w tone free = firstThatHolds (oneToFive w ++ sixAndSeven (sixth free w) w tone)

@@ -8,7 +8,7 @@ ghost use Rattle.rules.specs.TheWord.{letter};
 ghost use Rattle.rules.specs.TakingApart.{finals, stop as stopOf, fits as fitsOf, verdict as verdictOf, admitted as admittedOf};
 ghost use Rattle.rules.specs.KeyRoles.{toneGoes};
 ghost use Rattle.syllable.specs.Numbers.{digitAt, packed as packedOf, Packs};
-ghost use Rattle.syllable.specs.Checks.{initialFault, asked};
+ghost use Rattle.syllable.specs.Checks.{initialFault, firstFault};
 
 mod nuclei;
 mod words;
@@ -96,7 +96,7 @@ fn tone_fits(fin: u64, tone: u8) -> bool
 // The first of the seven checks that holds, or 0: the one look that verdict and admission take at a word.
 // Check 6 asks for the nucleus as it stands; where its letters are free, for some listed nucleus that could still come of them.
 fn ask(s: &[u16], tone: u8, free: bool) -> u8
-    ensures { λ r. ⌜ r ≡ asked (map letter (now (s .entry))) tone free ⌝ }
+    ensures { λ r. ⌜ r ≡ firstFault (map letter (now (s .entry))) tone free ⌝ }
 {
     let parts = parts::apart(s);
     let i = parts.initial;

@@ -8,7 +8,7 @@ use Rattle.rules.specs.Letters.{Letter, Letters, plain, horn}
 use Rattle.rules.specs.KeyRoles.{shaped, Found, behind, orElse, ifSo, target, here, last, isQ, pairHere, pair, single, horned, isPair, isSingle}
 use Rattle.rules.specs.declared.Place.{Place}
 use Rattle.rules.specs.declared.Place.the-variants.{At, Nowhere}
-use Rattle.targets.specs.Places.{next, orHere, hereOr, lastPlace, pairPlace, singlePlace}
+use Rattle.targets.specs.Places.{next, orThis, hereOr, lastPlace, pairPlace, singlePlace}
 use Rattle.targets.specs.Aims.{shapeAt, oneAt, pairAt}
 
 behind-target : (c : Bool) (x : Letter) (v w : Letters) → behind x (target c v w) ≡ target c (x ∷ v) (x ∷ w)
@@ -34,7 +34,7 @@ last-is want sh [] = refl
 last-is want sh (x ∷ xs) =
     ap (λ (f : Found). orElse (behind x f) (ifSo (want (x .base)) (here sh x xs))) (last-is want sh xs) ∙ go (lastPlace want xs) (want (x .base))
   where
-    go : (p : Place) (c : Bool) → orElse (behind x (oneAt sh p xs)) (ifSo c (here sh x xs)) ≡ oneAt sh (orHere p c) (x ∷ xs)
+    go : (p : Place) (c : Bool) → orElse (behind x (oneAt sh p xs)) (ifSo c (here sh x xs)) ≡ oneAt sh (orThis p c) (x ∷ xs)
     go (At i) c = ap (λ (f : Found). orElse f (ifSo c (here sh x xs))) (one-next sh (At i) x xs) ∙ or-target (eqb (shapeAt i xs) sh) _ _ _
     go Nowhere true = refl
     go Nowhere false = refl

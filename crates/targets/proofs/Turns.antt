@@ -12,7 +12,7 @@ use Rattle.rules.specs.TheWord.{letter, capitalNumber}
 use Rattle.rules.specs.KeyRoles.{isQ, isPair, isSingle}
 use Rattle.rules.specs.declared.Place.{Place}
 use Rattle.rules.specs.declared.Place.the-variants.{At, Nowhere}
-use Rattle.targets.specs.Places.{next, orHere, lastPlace, pairPlace, singlePlace}
+use Rattle.targets.specs.Places.{next, orThis, lastPlace, pairPlace, singlePlace}
 
 -- the search from the end: nothing is wanted from here on
 module _ (want : ℕ → Bool) where
@@ -28,7 +28,7 @@ module _ (want : ℕ → Bool) where
   found : (s : List ℕ) (i : ℕ) → i < length s → want (letter (getD s i 0) .base) ≡ true → noneFrom s (suc i) → lastPlace want (map letter s) ≡ At i
   found [] i h e n = absurd (omega arith)
   found (x ∷ s) zero h e n = rw (n, e)
-  found (x ∷ s) (suc i) h e n = ap (λ (p : Place). orHere p (want (letter x .base))) (found s i (omega arith) e n)
+  found (x ∷ s) (suc i) h e n = ap (λ (p : Place). orThis p (want (letter x .base))) (found s i (omega arith) e n)
 
   pub last-found : (s : List ℕ) (i j : ℕ) → suc i ≡ j → i < length s → want (letter (getD s i 0) .base) ≡ true → noneFrom s j → lastPlace want (map letter s) ≡ At i
   last-found s i j p h e n = found s i h e (rw p n)

@@ -9,13 +9,13 @@ use Rattle.rules.specs.Letters.{Letter, Letters}
 use Rattle.rules.specs.KeyRoles.{isQ, isPair, isSingle}
 use Rattle.rules.specs.declared.Place.{Place}
 use Rattle.rules.specs.declared.Place.the-variants.{At, Nowhere}
-use Rattle.targets.specs.Places.{orHere, hereOr, lastPlace, pairPlace, singlePlace}
+use Rattle.targets.specs.Places.{orThis, hereOr, lastPlace, pairPlace, singlePlace}
 
 data Below (n : ℕ) : Place → Type 0 where
   below : (i : ℕ) → i < n → Below n (At i)
   no-place : Below n Nowhere
 
-below-or : {n : ℕ} {p : Place} (c : Bool) → Below n p → Below (suc n) (orHere p c)
+below-or : {n : ℕ} {p : Place} (c : Bool) → Below n p → Below (suc n) (orThis p c)
 below-or c (below i h) = below (suc i) (omega arith)
 below-or true no-place = below 0 (omega arith)
 below-or false no-place = no-place

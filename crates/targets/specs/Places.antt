@@ -22,10 +22,10 @@ abbrev pub next : Place → Place
 next (At n) = At (suc n)
 next Nowhere = Nowhere
 
-abbrev pub orHere : Place → Bool → Place
-orHere (At n) here = At (suc n)
-orHere Nowhere true = At 0
-orHere Nowhere false = Nowhere
+abbrev pub orThis : Place → Bool → Place
+orThis (At n) here = At (suc n)
+orThis Nowhere true = At 0
+orThis Nowhere false = Nowhere
 
 abbrev pub hereOr : Bool → Place → Place
 hereOr true p = At 0
@@ -34,7 +34,7 @@ hereOr false p = next p
 -- the last letter with a wanted base
 abbrev pub lastPlace : (ℕ → Bool) → Letters → Place
 lastPlace want [] = Nowhere
-lastPlace want (x ∷ xs) = orHere (lastPlace want xs) (want (x .base))
+lastPlace want (x ∷ xs) = orThis (lastPlace want xs) (want (x .base))
 
 -- the first u followed directly by o, the u not directly after q
 abbrev pub pairPlace : Bool → Letters → Place

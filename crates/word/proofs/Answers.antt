@@ -25,7 +25,7 @@ use Rattle.rules.specs.declared.VerdictAnswer.the-variants.{Refused as VerdictR
 use Rattle.rules.specs.declared.DecisionAnswer.the-variants.{Decided}
 use Rattle.rules.specs.declared.DecisionAnswer.the-variants.{Refused as DecisionRefused}
 use Rattle.rules.proofs.Tests.{is-true}
-use Rattle.word.specs.Refusing.{refusedOf}
+use Rattle.word.specs.Refusing.{refusedTyping}
 use Rattle.word.specs.Deciding.{decidedBy}
 
 -- the first letter of a slice of numbers
@@ -39,17 +39,17 @@ first-is (n ∷ s) h = refl
 
 -- typing a list
 module _ (m : ℕ) (ks : List ℕ) where
-  pub no-mode : not (isMode m) ≡ true → typeAll m ks ≡ refusedOf 1 0
+  pub no-mode : not (isMode m) ≡ true → typeAll m ks ≡ refusedTyping 1 0
   unfolding typeAll refusal
   no-mode e = simp e
 
-  pub too-many : not (isMode m) ≡ false → mostKeys < length ks → typeAll m ks ≡ refusedOf 2 mostKeys
+  pub too-many : not (isMode m) ≡ false → mostKeys < length ks → typeAll m ks ≡ refusedTyping 2 mostKeys
   unfolding typeAll refusal
   too-many e h = simp (e, lt-ltb mostKeys (0 + length ks) (omega arith))
 
-  pub not-a-key : not (isMode m) ≡ false → length ks ≤ mostKeys → all (isKey m) ks ≡ false → typeAll m ks ≡ refusedOf 3 (allowedBefore m ks)
+  pub not-a-key : not (isMode m) ≡ false → length ks ≤ mostKeys → all (isKey m) ks ≡ false → typeAll m ks ≡ refusedTyping 3 (allowedBefore m ks)
   unfolding typeAll refusal
-  not-a-key e h n = simp (e, le-ltb mostKeys (0 + length ks) (omega arith), n) (let z : 0 + allowedBefore m ks ≡ allowedBefore m ks = omega arith in ap (refusedOf 3) z)
+  not-a-key e h n = simp (e, le-ltb mostKeys (0 + length ks) (omega arith), n) (let z : 0 + allowedBefore m ks ≡ allowedBefore m ks = omega arith in ap (refusedTyping 3) z)
 
   pub all-typed : not (isMode m) ≡ false → length ks ≤ mostKeys → T (all (isKey m) ks) → typeAll m ks ≡ record { answer = AllTyped; word = holding (newWord m) (typed m ks) }
   unfolding typeAll refusal

@@ -5,5 +5,5 @@ use Rattle.rules.specs.TheWord.{newWord}
 use Rattle.rules.specs.declared.TypeAll.{TypeAll}
 use Rattle.rules.specs.declared.TypeAnswer.the-variants.{Refused}
 
-abbrev pub refusedOf : ℕ → ℕ → TypeAll
-refusedOf n v = record { answer = Refused (record { number = n; value = v }); word = newWord telex }
+abbrev pub refusedTyping : ℕ → ℕ → TypeAll
+refusedTyping n v = record { answer = Refused (record { number = n; value = v }); word = newWord telex }

@@ -17,7 +17,7 @@ ghost use lib.ListN.{length};
 ghost use mathlib.Core.List.{map};
 ghost use Rattle.rules.specs.TheWord.{letter, newWord, holding};
 ghost use Rattle.rules.specs.Decision.{startsWithĐ};
-ghost use Rattle.word.specs.Refusing.{refusedOf};
+ghost use Rattle.word.specs.Refusing.{refusedTyping};
 ghost use Rattle.word.specs.Deciding.{decidedBy};
 ghost use Rattle.rules.specs.KeyRoles.{isKey};
 ghost use Rattle.rules.specs.Refusals.{all, isMode as isModeOf, allowedBefore};
@@ -93,7 +93,7 @@ fn typed_all(mode: u8, keys: &[u8]) -> Word
 }
 
 fn refused(number: u8, value: usize) -> TypeAll
-    ensures { λ r. ⌜ r ≡ refusedOf number value ⌝ }
+    ensures { λ r. ⌜ r ≡ refusedTyping number value ⌝ }
 {
     TypeAll {
         answer: TypeAnswer::Refused(Refusal {

@@ -6,7 +6,7 @@ use Prim.Native.Nat.{ℕ}
 use native.Mathlib.Omega.{arith}
 use lib.ListN.{length, take, drop, length-take, length-drop}
 use borrow.Author.Needs.{needs}
-use Rattle.layout.specs.Places.{wordIn}
+use Rattle.layout.specs.Places.{wordFrom}
 use Rattle.layout.proofs.Answers.{withParts, copied, another-length, another-mark, is-record}
 use Rattle.layout.proofs.read.Statement.{statement}
 use Rattle.layout.proofs.read.Tie as tie
@@ -47,4 +47,4 @@ read-spec =
     let bs = long .before .before .args .buffer .now in
     let whole : length (take 32 (drop 8 bs)) ≡ 32 = simp (length-take, length-drop) (omega (arith, long .if1 .left)) in
     let keys = keyed .copy .ensures .1 ∙ copied (take 32 (drop 8 bs)) _ whole refl in
-    ap₂ (λ (ks ls : List ℕ). record { is_record = true; word = withParts (wordIn bs) (wordIn bs .closed) ks ls }) keys (lettered .letters-in .ensures) ∙ is-record bs (long .if1 .left) (no .if2 .left)))
+    ap₂ (λ (ks ls : List ℕ). record { is_record = true; word = withParts (wordFrom bs) (wordFrom bs .closed) ks ls }) keys (lettered .letters-in .ensures) ∙ is-record bs (long .if1 .left) (no .if2 .left)))

@@ -12,7 +12,7 @@ use Rattle.rules.specs.Letters.{Letters, isNil}
 use Rattle.rules.specs.TheWord.{letter}
 use Rattle.rules.specs.TakingApart.{initial, nucleus, final, leftovers, listed, fits, check, firstThatHolds}
 use Rattle.syllable.specs.Numbers.{Packs}
-use Rattle.syllable.specs.Checks.{initialFault, sixth, asked}
+use Rattle.syllable.specs.Checks.{initialFault, sixth, firstFault}
 use Rattle.parts.specs.declared.Parts.{Parts}
 use Rattle.parts.proofs.Splits.{Cut, cut}
 use Rattle.syllable.proofs.PackedWords.{packs}
@@ -77,7 +77,7 @@ module _ (c : tie.After-known-final) where
   fin = packs (take (cuts start .end - cuts start .nucleus) (drop (cuts start .nucleus) (s start))) (c .before .packed3 .ensures) (parts start .fin)
 
   then : {five six seven : Bool} → not (c .known-final .result) ≡ five → six ≡ not (sixth (free start) (w start)) → seven ≡ not (fits (final (w start)) (tone start)) →
-      firstThatHolds (check 5 five ∷ check 6 six ∷ check 7 seven ∷ []) ≡ asked (w start) (tone start) (free start)
+      firstThatHolds (check 5 five ∷ check 6 six ∷ check 7 seven ∷ []) ≡ firstFault (w start) (tone start) (free start)
   then e = let d = c .before .before .before in answered _ _ _ (one past) (two (d .before .before)) (three (d .before)) (fault past 4 (ne-eqb _ 4 (d .if4 .left))) (sym e ∙ ap not (c .known-final .ensures _ fin))
 
 -- check 6: the nucleus is listed, some one agrees, or either
@@ -96,7 +96,7 @@ six c =
     (⊎-elim (λ q. sym (not-false (q .2 .result) (q .3 .left)) ∙ some-agree (record { before = record { before = record { before = c .before; if6 = q .0 }; if7 = q .1 }; some-agrees = q .2 }))
     (λ q. sym (listed-free (free p) (w p) (sym (is-listed (c .before)) ∙ not-false (c .before .listed .result) (q .left)))) (c .if6 .came))
 
-seven : (c : tie.After-tone-fits) {b : Bool} → not (c .tone-fits .result) ≡ b → let p = start (c .before .before .before .before) in firstThatHolds (check 7 b ∷ []) ≡ asked (w p) (tone p) (free p)
+seven : (c : tie.After-tone-fits) {b : Bool} → not (c .tone-fits .result) ≡ b → let p = start (c .before .before .before .before) in firstThatHolds (check 7 b ∷ []) ≡ firstFault (w p) (tone p) (free p)
 seven c e = let d = c .before .before .before in then (d .before) (d .if5 .left) (six (c .before)) (sym e ∙ ap not (c .tone-fits .ensures _ (fin (d .before))))
 
 pub ask-spec : {M : Type 1} → statement M

@@ -8,7 +8,7 @@ use borrow.Author.Tests.{not-false}
 use Rattle.rules.specs.declared.Word.{Word}
 use Rattle.rules.specs.declared.TypeAnswer.the-variants.{AllTyped}
 use Rattle.rules.specs.Refusals.{isMode}
-use Rattle.word.specs.Refusing.{refusedOf}
+use Rattle.word.specs.Refusing.{refusedTyping}
 use Rattle.word.proofs.Lists.{all-allowed}
 use Rattle.word.proofs.Answers.{no-mode, too-many, not-a-key, all-typed}
 use Rattle.word.proofs.type_all.Statement.{statement}
@@ -39,7 +39,7 @@ type-all-spec =
     let few = c .before .before .before in
     let args = few .before .before .before .before .args in
     let e = c .before .before .allowed-before .ensures in
-    c .refused3 .ensures ∙ ap (refusedOf 3) e ∙
+    c .refused3 .ensures ∙ ap (refusedTyping 3) e ∙
     sym (not-a-key (args .mode) (args .keys .now) (is-mode (few .before)) (few .if2 .left) (all-allowed (args .mode) (args .keys .now) .1 (omega (arith, e, c .before .if3 .taken)))))
     (λ c κs.
     let few = c .before .before in

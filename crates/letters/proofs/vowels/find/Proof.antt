@@ -3,7 +3,7 @@ use mathlib.Core.Path.{_≡_, _∙_, sym}
 use Prim.Native.Nat.{_≤_, _-_}
 use native.Mathlib.Omega.{arith}
 use lib.ListN.{length, drop}
-use Rattle.letters.specs.Rows.{table}
+use Rattle.letters.specs.Rows.{pointTable}
 use Rattle.letters.specs.Decoding.{found, foundIn}
 use Rattle.letters.proofs.Points.{right-at}
 use Rattle.letters.proofs.Finds.{not-stroke, small-read, capital-read, goes-on, not-read}
@@ -11,20 +11,20 @@ use Rattle.letters.proofs.vowels.find.Statement.{statement}
 use Rattle.letters.proofs.vowels.find.Tie as tie
 
 abbrev Inv-loop : tie.InvT-loop
-Inv-loop point n points i₀ i = (i ≤ 72) × (found point ≡ foundIn point i (drop i table))
+Inv-loop point n points i₀ i = (i ≤ 72) × (found point ≡ foundIn point i (drop i pointTable))
 
 abbrev μ-loop : tie.MeasureT-loop
 μ-loop point n points i₀ i = 72 - i
 
 returns-3 : tie.Need-returns-3 Inv-loop μ-loop
-unfolding table
+unfolding pointTable
 returns-3 c =
     let l = c .before .before .before in
     let s = l .before .before .before in
     small-read (s .args .point) (s .args .length) (l .loop .i) (l .loop .inv .1) (omega arith) (c .before .if3 .taken) (c .letter .ensures .0)
 
 returns-4 : tie.Need-returns-4 Inv-loop μ-loop
-unfolding table
+unfolding pointTable
 returns-4 c =
     let l = c .before .before .before .before .before in
     let s = l .before .before .before in
@@ -32,7 +32,7 @@ returns-4 c =
     (c .letter2 .ensures .0)
 
 loop-again : tie.Need-loop-again Inv-loop μ-loop
-unfolding table
+unfolding pointTable
 loop-again c =
     let l = c .before .before .before .before in
     let s = l .before .before .before in
@@ -45,7 +45,7 @@ returns-5 c =
     not-read (s .args .point) (s .args .length) (l .loop .i) (l .loop .inv .1) (omega arith)
 
 pub find-spec : {M : Type 1} → statement M
-unfolding found table
+unfolding found pointTable
 find-spec =
     tie.close (tie.spec
     Inv-loop

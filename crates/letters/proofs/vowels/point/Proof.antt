@@ -4,7 +4,7 @@ use Prim.Native.Nat.{ℕ, _+_, _*_, _≤_, _<_, _/_, _%_}
 use native.Mathlib.Omega.{arith}
 use lib.ListN.{getD}
 use borrow.Author.Needs.{needs}
-use Rattle.letters.specs.Rows.{table, pointsOf}
+use Rattle.letters.specs.Rows.{pointTable, pointsOf}
 use Rattle.letters.proofs.Points.{Right, right-at}
 use Rattle.letters.proofs.vowels.point.Statement.{statement}
 use Rattle.letters.proofs.vowels.point.Tie as tie
@@ -16,7 +16,7 @@ at-row r t p h e =
     (e .point-is ∙ ap₂ (λ (i j : ℕ). getD (pointsOf i) j 0) d m, e .above)
 
 pub point-spec : {M : Type 1} → statement M
-unfolding table
+unfolding pointTable
 point-spec =
     tie.close (tie.spec
     (λ c. search needs)

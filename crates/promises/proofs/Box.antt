@@ -1,19 +1,17 @@
 -- The calls of the box: what their contracts allow is the answer, or the refusal that the table gives, with the lent bytes as they were; and it is one result, and possible.
 use mathlib.Core.Path.{_≡_, refl, sym, ap, _∙_}
-use mathlib.Core.Bool.{Bool, true, false, not, _&&_}
-use mathlib.Core.List.{List, [], _∷_}
+use mathlib.Core.Bool.{Bool, true, false, _&&_}
+use mathlib.Core.List.{List, []}
 use mathlib.Core.Option.{Option, none, some}
 use Prim.Native.Nat.{ℕ}
 use denote.Ref.{RefT}
 use lib.Dec.{T}
-use lib.Ieee.Fits.{and-l}
-use lib.ListN.{length}
 use Rattle.rules.specs.CodePoints.{shown}
 use Rattle.rules.specs.TheWord.{newWord, wordOf, outcomeOf}
 use Rattle.rules.specs.KeyRoles.{keyDoes}
 use Rattle.rules.specs.Decision.{decision}
 use Rattle.rules.specs.Speller.{read}
-use Rattle.rules.specs.Refusals.{Call, table, refusal, FirstOf, NoneHolds}
+use Rattle.rules.specs.Refusals.{Call, refusal}
 use Rattle.rules.specs.WhatComesBack as Rules
 use Rattle.rules.specs.WhatComesBack.{startCall, startOr, stepCall, stepOr, writeOr, showCall, wordCall, placeOr, verdictOr, decisionOr, commitCall, typed, keysOf, spellCall}
 use Rattle.rules.specs.AnswersInNumbers.{outcomeNumbers, startSays, stepSays, writeSays, placeSays, verdictSays, decisionSays}

@@ -48,7 +48,7 @@ int main(int argc, char **argv)
     const int commits = is(argv[1], "commit"), spells = is(argv[1], "spell");
     const int both = is(argv[1], "one") || commits || spells, shows = is(argv[1], "two"), types = is(argv[1], "type") || shows;
     unsigned char fresh[FZ_WORD], word[FZ_WORD], text[FZ_TEXT], list[FZ_LIST];
-    unsigned long n = 0, keys = 0;
+    unsigned long n = 0, did = 0, keys = 0;
     unsigned refused = 0;
     fz_start(mode, fresh, sizeof fresh, &n);
     for (long round = atol(argv[3]); round > 0; round--) {
@@ -56,7 +56,7 @@ int main(int argc, char **argv)
         for (const char *const *at = words; *at; at++) {
             for (unsigned i = 0; i < FZ_WORD; i++) word[i] = fresh[i];
             for (const char *key = *at; *key; key++, keys++) {
-                if (both) refused |= fz_type_and_show(word, sizeof word, (unsigned char)*key, text, sizeof text, &n);
+                if (both) refused |= fz_type_and_show(word, sizeof word, (unsigned char)*key, text, sizeof text, &did, &n);
                 if (types) refused |= fz_type(word, sizeof word, (unsigned char)*key, &n);
                 if (shows) refused |= fz_show(word, sizeof word, text, sizeof text, &n);
             }

@@ -8,108 +8,178 @@
  * show. At the end of the word ask whether to keep the shown text or to hand back the raw keys.
  *
  *     unsigned char word[FZ_WORD], text[FZ_TEXT];
- *     unsigned long n;
- *     fz_start(FZ_TELEX, word, sizeof word, &n);                             (a new word)
- *     fz_type_and_show(word, sizeof word, key, text, sizeof text, &n);       (each key: text[0] to text[n - 1])
- *     fz_decision(word, sizeof word, &n);                                    (at its end: 0 keep the text, 1 hand back the keys)
+ *     unsigned long did, n;
+ *     fz_start(FZ_TELEX, word, sizeof word, &n);                              (a new word)
+ *     fz_type_and_show(word, sizeof word, key, text, sizeof text, &did, &n);  (each key: text[0] to text[n - 1])
+ *     fz_decision(word, sizeof word, &n);                                     (at its end: FZ_KEEP or FZ_RESTORE)
  *
  * EVERY CALL
- * - returns 0 where it is answered, and else a refusal number, listed below;
+ * - returns FZ_ANSWERED, which is 0, or else a refusal number, listed below;
  * - always writes *value: the answer's number, or the number that goes with the refusal;
  * - leaves every byte of word and output as it was where it refuses;
  * - takes any bytes, any mode and any key: nothing that stands in a buffer can break it;
  * - keeps nothing between calls, allocates nothing, and always returns.
  *
+ * POINTERS
  * A buffer is a pointer and then its length in bytes. The caller sees to this much: a pointer is not null,
- * also where the length is 0; the bytes are there; and a word, an output and a value that are handed to
- * one call do not overlap. Two calls may run at the same time on buffers of their own.
+ * also where the length is 0; the bytes are there; and nobody else writes them during the call, or reads
+ * those that it may write. Two calls may run at the same time on buffers of their own, and calls that take
+ * a word as const may share it.
  *
- * The archive is for x86-64 Linux; unsigned long has 8 bytes there. It calls the C function memcpy and nothing else. Text is UTF-8.
+ * OVERLAP
+ * What is lent to one call (word, keys, text, output, did, value) does not overlap, with one exception that
+ * is said at its call: the keys and the text of fz_commit. Nothing is promised of any other two that share a
+ * byte, such as a text that is spelled into its own buffer, or a value that lies inside a word.
  *
- * THE WORD: 104 bytes
- *   0         mode: 0 Telex, 1 VNI
- *   1         how many letters, at most 32
- *   2         tone: 0 none, 1 acute, 2 grave, 3 hook, 4 tilde, 5 dot
- *   3         0 open, 1 closed: a closed word takes every further key as a plain letter
- *   4         how many keys were typed, at most 32
- *   5, 6, 7   how many of them acted (set a mark or took one off), undid a mark, or were added as letters
- *   8 - 39    the keys as typed, one byte each
- *   40 - 103  the letters, two bytes each, low byte first: the letter's small ASCII code (in VNI also a
- *             digit's), plus 256 times its shape (0 plain, 1 circumflex, 2 breve, 3 horn, 4 stroke), plus
- *             2048 for a capital
- * fz_start writes one. A caller may read it, store it and lend it again; there is no other state.
- *
- * REFUSALS, and the value that goes with each
- *   1   the mode is neither 0 nor 1: 0
- *   2   too long: 32 for more than 32 keys, or for a key on a word that has 32; 96 for a text of more than 96 bytes
- *   3   a byte that is no key of the mode (letters A-Z and a-z, in VNI also 0-9): its place in the keys, from 0;
- *       for a typed key the number of keys already typed
- *   4   the output is too short: the bytes needed
- *   5   the text is not exactly what the keys show: 0
- *   6   a byte of the text where no letter of the Vietnamese or the English alphabet starts: its place, from 0
- *   7   the text is no syllable as it would be shown: 8 where two letters carry a tone; else what fz_verdict would say, 1 to 7; else 9
- *       where the tone stands on another letter than it should
- *   8   the word is not 104 bytes, its mark is neither 0 nor 1, or it is out of range (a count over 32, more letters
- *       than keys, counts 5 to 7 that do not add up to the keys, a key or letter that the mode does not have, a
- *       shape that its letter cannot carry, a digit as a capital, a tone or mode that does not exist): 0
- * Where several hold, the first in the order 8, 1, 2, 3, 6, 7, 5, 4 is given; of 2 the one for keys comes first.
+ * The archive is for x86-64 Linux. It calls the C function memcpy and nothing else. Text is UTF-8.
  */
 #ifndef FELCANTUZZA_H
 #define FELCANTUZZA_H
 
-#define FZ_WORD 104 /* bytes of a word */
-#define FZ_KEYS 32  /* keys of a word at most */
-#define FZ_TEXT 96  /* bytes of text at most: an output of this length is never too short */
-#define FZ_LIST 9   /* keys of a standard list at most */
-#define FZ_TELEX 0
-#define FZ_VNI 1
+#define FZ_VERSION "0.15"
+
+/* Lengths in bytes. */
+#define FZ_WORD 104 /* a word */
+#define FZ_KEYS 32  /* the keys of a word at most */
+#define FZ_TEXT 96  /* a text at most: an output of this length is never too short */
+#define FZ_LIST 9   /* the keys of a standard list at most */
+
+/* Modes: how marks are typed. */
+#define FZ_TELEX 0 /* by letters */
+#define FZ_VNI 1   /* by digits */
+
+/*
+ * THE WORD: 104 bytes. What stands at which place. fz_start writes one. A caller may read it, store it and lend it again;
+ * there is no other state. The raw keys, to be handed back, are word[FZ_AT_KEY_COUNT] bytes from word + FZ_AT_KEYS.
+ */
+#define FZ_AT_MODE 0         /* FZ_TELEX or FZ_VNI */
+#define FZ_AT_LETTER_COUNT 1 /* how many letters, at most 32 */
+#define FZ_AT_TONE 2         /* FZ_NO_TONE to FZ_DOT, one for the whole word */
+#define FZ_AT_MARK 3         /* FZ_OPEN or FZ_CLOSED */
+#define FZ_AT_KEY_COUNT 4    /* how many keys were typed, at most 32: the sum of the next three */
+#define FZ_AT_ACTED 5        /* how many of them set a mark or cleared the tone */
+#define FZ_AT_UNDONE 6       /* how many undid a mark */
+#define FZ_AT_APPENDED 7     /* how many were added as letters */
+#define FZ_AT_KEYS 8         /* to 39: the keys as typed, one byte each */
+#define FZ_AT_LETTERS 40     /* to 103: the letters, two bytes each, low byte first */
+
+/* A closed word takes every further key as a plain letter. */
+#define FZ_OPEN 0
+#define FZ_CLOSED 1
+
+/* The letter at a place from 0, as one number: its small ASCII code (in VNI also a digit's), 256 times its shape, 2048 for a capital. */
+#define FZ_LETTER(word, place) ((word)[FZ_AT_LETTERS + 2 * (place)] + 256 * (word)[FZ_AT_LETTERS + 2 * (place) + 1])
+#define FZ_LETTER_BASE(letter) ((letter) % 256)
+#define FZ_LETTER_SHAPE(letter) ((letter) / 256 % 8)
+#define FZ_LETTER_CAPITAL(letter) ((letter) / 2048 % 2)
+
+/* Shapes: marks that belong to a letter. */
+#define FZ_PLAIN 0
+#define FZ_CIRCUMFLEX 1
+#define FZ_BREVE 2
+#define FZ_HORN 3
+#define FZ_STROKE 4
+
+/* Tones: the mark that belongs to a word. */
+#define FZ_NO_TONE 0
+#define FZ_ACUTE 1
+#define FZ_GRAVE 2
+#define FZ_HOOK 3
+#define FZ_TILDE 4
+#define FZ_DOT 5
+
+/*
+ * REFUSALS, and the value that goes with each. Where several hold, the first in the order 8, 1, 2, 3, 6, 7, 5, 4 is given; of 2 the
+ * one for keys comes first.
+ */
+#define FZ_ANSWERED 0         /* no refusal */
+#define FZ_REFUSED_MODE 1     /* the mode is neither FZ_TELEX nor FZ_VNI: 0 */
+#define FZ_REFUSED_LENGTH 2   /* FZ_KEYS for more than 32 keys, or for a key on a word that has 32; FZ_TEXT for a text of more than 96 bytes */
+#define FZ_REFUSED_KEY 3      /* a byte that is no key of the mode (letters A-Z and a-z, in VNI also 0-9): its place in the keys, from 0; for a typed key the number of keys already typed */
+#define FZ_REFUSED_ROOM 4     /* the output is too short: the bytes needed */
+#define FZ_REFUSED_TEXT 5     /* the text is not exactly what the keys show: 0 */
+#define FZ_REFUSED_LETTER 6   /* a byte of the text where no letter of the Vietnamese or the English alphabet starts: its place, from 0 */
+#define FZ_REFUSED_SYLLABLE 7 /* the text is no syllable as it would be shown: FZ_TWO_TONES; else the verdict, 1 to 7; else FZ_TONE_ELSEWHERE */
+#define FZ_REFUSED_WORD 8     /* the word is not 104 bytes, its mark is neither 0 nor 1, or it is out of range: 0 */
+/*
+ * Out of range: a count over 32, more letters than keys, counts at 5 to 7 that do not add up to the keys, a key or letter that the mode
+ * does not have, a shape that its letter cannot carry, a digit as a capital, a tone or mode that does not exist.
+ */
+
+/* Verdicts: is it a Vietnamese syllable, or what is the first thing wrong? */
+#define FZ_VALID 0
+#define FZ_NUCLEUS_EMPTY 1    /* no vowel */
+#define FZ_INITIAL_UNKNOWN 2  /* unknown consonants in front */
+#define FZ_LEFTOVERS 3        /* letters left over at the end */
+#define FZ_INITIAL_UNFIT 4    /* the consonants in front do not go with the first vowel */
+#define FZ_FINAL_UNKNOWN 5    /* unknown consonants at the end */
+#define FZ_NUCLEUS_UNLISTED 6 /* the vowels are not listed, or not with these consonants */
+#define FZ_TONE_UNFIT 7       /* the tone does not go with the end */
+#define FZ_TWO_TONES 8        /* only with FZ_REFUSED_SYLLABLE: two letters carry a tone */
+#define FZ_TONE_ELSEWHERE 9   /* only with FZ_REFUSED_SYLLABLE: the tone stands on another letter than it should */
+
 #define FZ_NOWHERE 255 /* fz_place: no letter carries the tone */
+
+/* Decisions. */
+#define FZ_KEEP 0    /* keep the shown text */
+#define FZ_RESTORE 1 /* hand back the raw keys */
+
+/* What a key did, in one number: 16 times its kind, and the tone or the shape that it set. Taken apart: */
+#define FZ_KIND(did) ((did) / 16)
+#define FZ_TONE_SET(did) (FZ_KIND(did) == FZ_DID_TONE ? (did) % 16 : FZ_NO_TONE)
+#define FZ_SHAPE_SET(did) (FZ_KIND(did) == FZ_DID_SHAPE ? (did) % 16 : FZ_PLAIN)
+
+/* Its kinds. */
+#define FZ_DID_NOTHING 0 /* the call was refused */
+#define FZ_DID_TONE 1    /* set a tone, FZ_ACUTE to FZ_DOT */
+#define FZ_DID_SHAPE 2   /* set a shape, FZ_CIRCUMFLEX, FZ_BREVE or FZ_HORN */
+#define FZ_DID_STROKE 3  /* set a stroke */
+#define FZ_DID_CLEAR 4   /* cleared the tone */
+#define FZ_DID_UNDO 5    /* undid its own mark and closed the word */
+#define FZ_DID_APPEND 6  /* was added as a letter */
+
+/* The archive has 8 bytes for a length or a value. Where unsigned long has not, this does not compile. */
+typedef char fz_unsigned_long_has_8_bytes[sizeof(unsigned long) == 8 ? 1 : -1];
 
 #ifdef __cplusplus
 extern "C" {
 #endif
 
-/* A new word in a mode. Value: 0. Refusals: 8 (here only for a length other than 104), 1. */
+/* A new word in a mode. Value: 0. Refusals: 8 (here only for a length other than 104), 1. Overlap: none. */
 unsigned char fz_start(unsigned char mode, unsigned char *word, unsigned long word_length, unsigned long *value);
 
-/*
- * One key typed. Value, what the key did: 16 + the tone that it set (17 to 21), 32 + the shape that it set (33 to 35),
- * 48 it set a stroke, 64 it cleared the tone, 80 it undid its own mark and closed the word, 96 it was added as a letter.
- * Refusals: 8, 2, 3.
- */
+/* One key typed. Value: what the key did. Refusals: 8, 2, 3. Overlap: none. */
 unsigned char fz_type(unsigned char *word, unsigned long word_length, unsigned char key, unsigned long *value);
 
 /*
  * One key typed and the word shown, in one call: the quick way. The text stands at the front of the output and the rest of
- * the output is as it was. Value: the bytes of text. Refusals: 8, 2, 3, 4; after 4 the key is not typed.
+ * the output is as it was. Always written: *did, what the key did, 0 where the call is refused. Value: the bytes of text.
+ * Refusals: 8, 2, 3, 4; after 4 the key is not typed. Overlap: none.
  */
-unsigned char fz_type_and_show(unsigned char *word, unsigned long word_length, unsigned char key, unsigned char *output, unsigned long output_length, unsigned long *value);
+unsigned char fz_type_and_show(unsigned char *word, unsigned long word_length, unsigned char key, unsigned char *output, unsigned long output_length, unsigned long *did, unsigned long *value);
 
-/* The word's text at the front of the output. Value: the bytes of text. Refusals: 8, 4. */
+/* The word's text at the front of the output. Value: the bytes of text. Refusals: 8, 4. Overlap: none. */
 unsigned char fz_show(const unsigned char *word, unsigned long word_length, unsigned char *output, unsigned long output_length, unsigned long *value);
 
-/*
- * Is the word a Vietnamese syllable? Value: 0 it is; else the first thing wrong: 1 no vowel, 2 unknown consonants in front, 3 letters
- * left over at the end, 4 the consonants in front do not go with the first vowel, 5 unknown consonants at the end, 6 the vowels are
- * not listed, or not with these consonants, 7 the tone does not go with the end. Refusals: 8.
- */
+/* Is the word a Vietnamese syllable? Value: the verdict. Refusals: 8. Overlap: none. */
 unsigned char fz_verdict(const unsigned char *word, unsigned long word_length, unsigned long *value);
 
-/* Which letter carries the tone. Value: its place among the letters, from 0, or FZ_NOWHERE. Refusals: 8. */
+/* Which letter carries the tone. Value: its place among the letters, from 0, or FZ_NOWHERE. Refusals: 8. Overlap: none. */
 unsigned char fz_place(const unsigned char *word, unsigned long word_length, unsigned long *value);
 
-/* At the end of a word. Value: 0 keep the shown text, 1 hand back the raw keys. Refusals: 8. */
+/* At the end of a word. Value: FZ_KEEP or FZ_RESTORE. Refusals: 8. Overlap: none. */
 unsigned char fz_decision(const unsigned char *word, unsigned long word_length, unsigned long *value);
 
 /*
  * The same question of keys and the text that they are said to show, without a word: for a caller that keeps only these two.
- * Value: 0 keep the text, 1 hand back the keys. Refusals: 1, 2 (32), 2 (96), 3, 5.
+ * Value: FZ_KEEP or FZ_RESTORE. Refusals: 1, 2 (FZ_KEYS), 2 (FZ_TEXT), 3, 5. Overlap: keys and text, which are only read, may
+ * share bytes or be the same.
  */
 unsigned char fz_commit(unsigned char mode, const unsigned char *keys, unsigned long keys_length, const unsigned char *text, unsigned long text_length, unsigned long *value);
 
 /*
  * A shown syllable back to keys: its one standard key list at the front of the output, and the rest of the output as it was. Value: how many
- * keys, at most FZ_LIST. Refusals: 1, 2 (96), 6, 7, 4.
+ * keys, at most FZ_LIST. Refusals: 1, 2 (FZ_TEXT), 6, 7, 4. Overlap: none.
  */
 unsigned char fz_spell(unsigned char mode, const unsigned char *text, unsigned long text_length, unsigned char *output, unsigned long output_length, unsigned long *value);
 

@@ -1,6 +1,8 @@
 /*
- * The library as the box links it: types and numbers of the header, the record byte by byte, words typed key by key, every refusal, show, commit and
- * spelling. One line for each check that fails.
+ * The library as the box links it: types, numbers and macros of the header, the record byte by byte, words typed key by key and what each key did,
+ * every refusal, show, commit, also of keys and a text that overlap, and spelling. One line for each check that fails.
+ *
+ * VERSION, what the file of that name at the repository's root says, is defined where this is compiled.
  */
 #include "../../box/felcantuzza.h"
 
@@ -10,7 +12,7 @@ extern int printf(const char *form, ...);
 static const struct {
     unsigned char (*start)(unsigned char, unsigned char *, unsigned long, unsigned long *);
     unsigned char (*type)(unsigned char *, unsigned long, unsigned char, unsigned long *);
-    unsigned char (*type_and_show)(unsigned char *, unsigned long, unsigned char, unsigned char *, unsigned long, unsigned long *);
+    unsigned char (*type_and_show)(unsigned char *, unsigned long, unsigned char, unsigned char *, unsigned long, unsigned long *, unsigned long *);
     unsigned char (*show)(const unsigned char *, unsigned long, unsigned char *, unsigned long, unsigned long *);
     unsigned char (*verdict)(const unsigned char *, unsigned long, unsigned long *);
     unsigned char (*place)(const unsigned char *, unsigned long, unsigned long *);
@@ -58,19 +60,21 @@ static void fill(unsigned char *to, unsigned long n, unsigned char with) {
 /* What a call that is still to write its value must not leave there. */
 #define UNWRITTEN 4711
 
-/* The keys typed into a new word by fz_type_and_show, and beside it by fz_type and fz_show: both leave the same word and the same text. */
+/* The keys typed into a new word by fz_type_and_show, and beside it by fz_type and fz_show: both say the same of the key, and leave the same word and the same text. */
 static unsigned long type_all(unsigned char mode, const char *keys, unsigned char *word, unsigned char *text) {
     unsigned char other[FZ_WORD], shown[FZ_TEXT];
-    unsigned long n = UNWRITTEN, m = UNWRITTEN;
+    unsigned long n = UNWRITTEN, m = UNWRITTEN, did, typed;
     check(fz_start(mode, word, FZ_WORD, &n) == 0 && n == 0, "a new word", keys);
     copy(other, word, FZ_WORD);
     check(fz_show(word, FZ_WORD, text, FZ_TEXT, &n) == 0 && n == 0, "a new word shows nothing", keys);
     for (unsigned long i = 0; keys[i]; i++) {
         fill(text, FZ_TEXT, '#');
         fill(shown, FZ_TEXT, '#');
-        check(fz_type_and_show(word, FZ_WORD, (unsigned char)keys[i], text, FZ_TEXT, &n) == 0, "typed and shown", keys);
-        check(fz_type(other, FZ_WORD, (unsigned char)keys[i], &m) == 0, "typed", keys);
+        did = typed = UNWRITTEN;
+        check(fz_type_and_show(word, FZ_WORD, (unsigned char)keys[i], text, FZ_TEXT, &did, &n) == 0, "typed and shown", keys);
+        check(fz_type(other, FZ_WORD, (unsigned char)keys[i], &typed) == 0, "typed", keys);
         check(fz_show(other, FZ_WORD, shown, FZ_TEXT, &m) == 0, "shown", keys);
+        check(did == typed && did != UNWRITTEN, "one call and two say the same of the key", keys);
         check(n == m && same(text, shown, FZ_TEXT), "one call and two show the same", keys);
         check(same(word, other, FZ_WORD), "one call and two leave the same word", keys);
         check(word[4] == i + 1 && word[8 + i] == (unsigned char)keys[i], "the key is kept", keys);
@@ -123,6 +127,8 @@ static void try_card(const struct card *c) {
     v = UNWRITTEN;
     check(fz_commit(c->mode, bytes(c->keys), keys, bytes(c->shown), shown, &v) == 0 && v == c->decision, "commit", c->keys);
     v = UNWRITTEN;
+    check(fz_commit(c->mode, word + FZ_AT_KEYS, word[FZ_AT_KEY_COUNT], text, n, &v) == 0 && v == c->decision, "commit of the word's own keys", c->keys);
+    v = UNWRITTEN;
     check(fz_commit(c->mode, bytes(c->keys), keys, bytes("?"), 1, &v) == 5 && v == 0, "commit of another text is refusal 5", c->keys);
     if (shown > 0) {
         check(fz_commit(c->mode, bytes(c->keys), keys, bytes(c->shown), shown - 1, &v) == 5 && v == 0, "commit of a byte less is refusal 5", c->keys);
@@ -132,7 +138,7 @@ static void try_card(const struct card *c) {
     }
 }
 
-/* A letter's number as the header says: the small ASCII code, 256 times the shape, 2048 for a capital. */
+/* A letter's number as the header says: the small ASCII code, 256 times the shape, 2048 for a capital. The shapes in numbers, not by the header's names. */
 enum { PLAIN = 0, CIRCUMFLEX = 1, STROKE = 4, CAPITAL = 2048 };
 #define LETTER(small, shape, capital) ((small) + 256 * (shape) + (capital))
 
@@ -173,26 +179,143 @@ static void try_record(const struct record *r) {
     }
 }
 
-/* What each key did, as fz_type's value. */
+/* What each key did, as fz_type's value, and as fz_type_and_show says it into an output with room for any text and into one that just fits. */
 static void try_outcomes(unsigned char mode, const char *keys, const unsigned long *did) {
-    unsigned char word[FZ_WORD];
-    unsigned long v = UNWRITTEN;
+    unsigned char word[FZ_WORD], other[FZ_WORD], tight[FZ_WORD], text[FZ_TEXT];
+    unsigned long v = UNWRITTEN, n, told;
     fz_start(mode, word, FZ_WORD, &v);
-    for (unsigned long i = 0; keys[i]; i++)
+    copy(other, word, FZ_WORD);
+    copy(tight, word, FZ_WORD);
+    for (unsigned long i = 0; keys[i]; i++) {
         check(fz_type(word, FZ_WORD, (unsigned char)keys[i], &v) == 0 && v == did[i], "what the key did", keys);
+        told = UNWRITTEN;
+        check(fz_type_and_show(other, FZ_WORD, (unsigned char)keys[i], text, FZ_TEXT, &told, &n) == 0 && told == did[i], "what the key did, beside the text", keys);
+        told = UNWRITTEN;
+        check(fz_type_and_show(tight, FZ_WORD, (unsigned char)keys[i], text, n, &told, &v) == 0 && told == did[i] && v == n, "what the key did, beside a text that just fits", keys);
+    }
+}
+
+/* The names of the header, each by its value. */
+static void try_names(void) {
+    const struct {
+        const char *name;
+        unsigned long is, should;
+    } names[] = {
+        {"FZ_WORD", FZ_WORD, 104},
+        {"FZ_KEYS", FZ_KEYS, 32},
+        {"FZ_TEXT", FZ_TEXT, 96},
+        {"FZ_LIST", FZ_LIST, 9},
+        {"FZ_TELEX", FZ_TELEX, 0},
+        {"FZ_VNI", FZ_VNI, 1},
+        {"FZ_AT_MODE", FZ_AT_MODE, 0},
+        {"FZ_AT_LETTER_COUNT", FZ_AT_LETTER_COUNT, 1},
+        {"FZ_AT_TONE", FZ_AT_TONE, 2},
+        {"FZ_AT_MARK", FZ_AT_MARK, 3},
+        {"FZ_AT_KEY_COUNT", FZ_AT_KEY_COUNT, 4},
+        {"FZ_AT_ACTED", FZ_AT_ACTED, 5},
+        {"FZ_AT_UNDONE", FZ_AT_UNDONE, 6},
+        {"FZ_AT_APPENDED", FZ_AT_APPENDED, 7},
+        {"FZ_AT_KEYS", FZ_AT_KEYS, 8},
+        {"FZ_AT_LETTERS", FZ_AT_LETTERS, 40},
+        {"FZ_OPEN", FZ_OPEN, 0},
+        {"FZ_CLOSED", FZ_CLOSED, 1},
+        {"FZ_PLAIN", FZ_PLAIN, 0},
+        {"FZ_CIRCUMFLEX", FZ_CIRCUMFLEX, 1},
+        {"FZ_BREVE", FZ_BREVE, 2},
+        {"FZ_HORN", FZ_HORN, 3},
+        {"FZ_STROKE", FZ_STROKE, 4},
+        {"FZ_NO_TONE", FZ_NO_TONE, 0},
+        {"FZ_ACUTE", FZ_ACUTE, 1},
+        {"FZ_GRAVE", FZ_GRAVE, 2},
+        {"FZ_HOOK", FZ_HOOK, 3},
+        {"FZ_TILDE", FZ_TILDE, 4},
+        {"FZ_DOT", FZ_DOT, 5},
+        {"FZ_ANSWERED", FZ_ANSWERED, 0},
+        {"FZ_REFUSED_MODE", FZ_REFUSED_MODE, 1},
+        {"FZ_REFUSED_LENGTH", FZ_REFUSED_LENGTH, 2},
+        {"FZ_REFUSED_KEY", FZ_REFUSED_KEY, 3},
+        {"FZ_REFUSED_ROOM", FZ_REFUSED_ROOM, 4},
+        {"FZ_REFUSED_TEXT", FZ_REFUSED_TEXT, 5},
+        {"FZ_REFUSED_LETTER", FZ_REFUSED_LETTER, 6},
+        {"FZ_REFUSED_SYLLABLE", FZ_REFUSED_SYLLABLE, 7},
+        {"FZ_REFUSED_WORD", FZ_REFUSED_WORD, 8},
+        {"FZ_VALID", FZ_VALID, 0},
+        {"FZ_NUCLEUS_EMPTY", FZ_NUCLEUS_EMPTY, 1},
+        {"FZ_INITIAL_UNKNOWN", FZ_INITIAL_UNKNOWN, 2},
+        {"FZ_LEFTOVERS", FZ_LEFTOVERS, 3},
+        {"FZ_INITIAL_UNFIT", FZ_INITIAL_UNFIT, 4},
+        {"FZ_FINAL_UNKNOWN", FZ_FINAL_UNKNOWN, 5},
+        {"FZ_NUCLEUS_UNLISTED", FZ_NUCLEUS_UNLISTED, 6},
+        {"FZ_TONE_UNFIT", FZ_TONE_UNFIT, 7},
+        {"FZ_TWO_TONES", FZ_TWO_TONES, 8},
+        {"FZ_TONE_ELSEWHERE", FZ_TONE_ELSEWHERE, 9},
+        {"FZ_NOWHERE", FZ_NOWHERE, 255},
+        {"FZ_KEEP", FZ_KEEP, 0},
+        {"FZ_RESTORE", FZ_RESTORE, 1},
+        {"FZ_DID_NOTHING", FZ_DID_NOTHING, 0},
+        {"FZ_DID_TONE", FZ_DID_TONE, 1},
+        {"FZ_DID_SHAPE", FZ_DID_SHAPE, 2},
+        {"FZ_DID_STROKE", FZ_DID_STROKE, 3},
+        {"FZ_DID_CLEAR", FZ_DID_CLEAR, 4},
+        {"FZ_DID_UNDO", FZ_DID_UNDO, 5},
+        {"FZ_DID_APPEND", FZ_DID_APPEND, 6},
+    };
+    for (unsigned long i = 0; i < sizeof names / sizeof names[0]; i++)
+        check(names[i].is == names[i].should, "its value", names[i].name);
+    check(length(FZ_VERSION) == length(VERSION) && same(bytes(FZ_VERSION), bytes(VERSION), length(VERSION)), "what the file VERSION says", "FZ_VERSION");
+}
+
+/* The macros that take an outcome apart, at every kind, and those that read a letter out of a word. */
+static void try_macros(void) {
+    const struct {
+        unsigned long did, kind, tone, shape;
+    } outcomes[] = {{0, 0, 0, 0}, {17, 1, 1, 0}, {21, 1, 5, 0}, {33, 2, 0, 1}, {35, 2, 0, 3}, {48, 3, 0, 0}, {64, 4, 0, 0}, {80, 5, 0, 0}, {96, 6, 0, 0}};
+    unsigned char word[FZ_WORD], text[FZ_TEXT];
+    for (unsigned long i = 0; i < sizeof outcomes / sizeof outcomes[0]; i++) {
+        check(FZ_KIND(outcomes[i].did) == outcomes[i].kind, "the kind of an outcome", "FZ_KIND");
+        check(FZ_TONE_SET(outcomes[i].did) == outcomes[i].tone, "the tone that was set", "FZ_TONE_SET");
+        check(FZ_SHAPE_SET(outcomes[i].did) == outcomes[i].shape, "the shape that was set", "FZ_SHAPE_SET");
+    }
+    type_all(FZ_TELEX, "DdooW", word, text);
+    check(FZ_LETTER(word, 0) == LETTER('d', STROKE, CAPITAL) && FZ_LETTER(word, 1) == LETTER('o', 3, 0), "the letters of a word", "FZ_LETTER");
+    check(FZ_LETTER_BASE(FZ_LETTER(word, 0)) == 'd' && FZ_LETTER_BASE(FZ_LETTER(word, 1)) == 'o', "the small ASCII code", "FZ_LETTER_BASE");
+    check(FZ_LETTER_SHAPE(FZ_LETTER(word, 0)) == STROKE && FZ_LETTER_SHAPE(FZ_LETTER(word, 1)) == 3, "the shape", "FZ_LETTER_SHAPE");
+    check(FZ_LETTER_CAPITAL(FZ_LETTER(word, 0)) == 1 && FZ_LETTER_CAPITAL(FZ_LETTER(word, 1)) == 0, "the case", "FZ_LETTER_CAPITAL");
+}
+
+/* The one overlap that the header promises: the keys and the text of fz_commit may be the same bytes, or share some. Each two parts of one buffer, and beside them the same keys and text apart. */
+static void try_overlap(void) {
+    const unsigned char shared[] = "lala1la";
+    unsigned char keys[4], text[4];
+    unsigned long v = UNWRITTEN, w;
+    check(fz_commit(FZ_TELEX, shared, 4, shared, 4, &v) == 0 && v == 0, "keys and text are the same bytes", "fz_commit");
+    v = UNWRITTEN;
+    check(fz_commit(FZ_TELEX, shared, 7, shared, 4, &v) == 3 && v == 4, "the text lies in keys of which one is none", "fz_commit");
+    for (unsigned long from = 0; from <= 3; from++)
+        for (unsigned long at = 0; at <= 3; at++)
+            for (unsigned long n = 0; n <= 4; n++)
+                for (unsigned long m = 0; m <= 4; m++) {
+                    copy(keys, shared + from, n);
+                    copy(text, shared + at, m);
+                    v = UNWRITTEN;
+                    check(fz_commit(FZ_VNI, shared + from, n, shared + at, m, &v) == fz_commit(FZ_VNI, keys, n, text, m, &w) && v == w, "parts of one buffer", "fz_commit");
+                }
 }
 
 /* Each call on these bytes is refused with the number and the value, and changes no byte. */
 static void try_refused(unsigned char *word, unsigned long word_length, unsigned char number, unsigned long value, const char *why) {
     unsigned char before[FZ_WORD + 1], text[FZ_TEXT], blank[FZ_TEXT];
-    unsigned long v[6];
+    unsigned long v[6], did;
     fill(text, FZ_TEXT, '#');
     fill(blank, FZ_TEXT, '#');
     copy(before, word, word_length);
     for (int i = 0; i < 6; i++)
         v[i] = UNWRITTEN;
     check(fz_type(word, word_length, 'a', &v[0]) == number && v[0] == value, "fz_type", why);
-    check(fz_type_and_show(word, word_length, 'a', text, FZ_TEXT, &v[1]) == number && v[1] == value, "fz_type_and_show", why);
+    for (unsigned long room = 0; room <= FZ_TEXT; room += FZ_TEXT) {
+        v[1] = did = UNWRITTEN;
+        check(fz_type_and_show(word, word_length, 'a', text, room, &did, &v[1]) == number && v[1] == value && did == 0, "fz_type_and_show", why);
+    }
     if (number == 8) {
         check(fz_show(word, word_length, text, FZ_TEXT, &v[2]) == 8 && v[2] == 0, "fz_show", why);
         check(fz_verdict(word, word_length, &v[3]) == 8 && v[3] == 0, "fz_verdict", why);
@@ -235,10 +358,9 @@ static void try_not_spelled(const char *text, unsigned char number, unsigned lon
 
 int main(void) {
     unsigned char word[FZ_WORD + 1], before[FZ_WORD + 1], text[FZ_TEXT], long_text[FZ_TEXT + 1];
-    unsigned long v;
+    unsigned long v, did;
 
-    check(FZ_WORD == 104 && FZ_KEYS == 32 && FZ_TEXT == 96 && FZ_LIST == 9, "104, 32, 96, 9", "lengths of the header");
-    check(FZ_TELEX == 0 && FZ_VNI == 1 && FZ_NOWHERE == 255, "0, 1, 255", "numbers of the header");
+    try_names();
     check(calls.start == fz_start && calls.spell == fz_spell, "the calls at their types", "the header");
 
     for (unsigned long i = 0; i < sizeof records / sizeof records[0]; i++)
@@ -247,6 +369,7 @@ int main(void) {
     for (unsigned long i = 0; i < sizeof cards / sizeof cards[0]; i++)
         try_card(&cards[i]);
 
+    try_macros();
     try_outcomes(FZ_TELEX, "vieejt", (const unsigned long[]){96, 96, 96, 33, 21, 96});
     try_outcomes(FZ_TELEX, "dodsz", (const unsigned long[]){96, 96, 48, 17, 64});
     try_outcomes(FZ_TELEX, "aww", (const unsigned long[]){96, 34, 80});
@@ -293,8 +416,8 @@ int main(void) {
         fill(text, FZ_TEXT, '#');
         v = UNWRITTEN;
         check(fz_type(word, FZ_WORD, bad[i], &v) == 3 && v == 6, "refusal 3 with 6", "fz_type");
-        v = UNWRITTEN;
-        check(fz_type_and_show(word, FZ_WORD, bad[i], text, FZ_TEXT, &v) == 3 && v == 6 && text[0] == '#', "refusal 3 with 6", "fz_type_and_show");
+        v = did = UNWRITTEN;
+        check(fz_type_and_show(word, FZ_WORD, bad[i], text, FZ_TEXT, &did, &v) == 3 && v == 6 && did == 0 && text[0] == '#', "refusal 3 with 6", "fz_type_and_show");
         check(same(word, before, FZ_WORD), "the word is as it was", "refusal 3");
     }
 
@@ -302,10 +425,10 @@ int main(void) {
     type_all(FZ_TELEX, "vieej", word, text);
     copy(before, word, FZ_WORD);
     fill(text, FZ_TEXT, '#');
-    v = UNWRITTEN;
-    check(fz_type_and_show(word, FZ_WORD, 't', text, 5, &v) == 4 && v == 6, "refusal 4 with 6", "fz_type_and_show");
+    v = did = UNWRITTEN;
+    check(fz_type_and_show(word, FZ_WORD, 't', text, 5, &did, &v) == 4 && v == 6 && did == 0, "refusal 4 with 6", "fz_type_and_show");
     check(same(word, before, FZ_WORD) && text[0] == '#', "word and output are as they were", "refusal 4");
-    check(fz_type_and_show(word, FZ_WORD, 't', text, 6, &v) == 0 && v == 6 && same(text, bytes("việt"), 6) && text[6] == '#', "just enough room", "fz_type_and_show");
+    check(fz_type_and_show(word, FZ_WORD, 't', text, 6, &did, &v) == 0 && v == 6 && did == 96 && same(text, bytes("việt"), 6) && text[6] == '#', "just enough room", "fz_type_and_show");
 
     /* A full word: 32 times a is 31 letters, closed; one more is refused, also where it is no key. */
     v = type_all(FZ_TELEX, "aaaaaaaaaaaaaaaaaaaaaaaaaaaaaaaa", word, text);
@@ -324,6 +447,8 @@ int main(void) {
     v = UNWRITTEN;
     check(fz_commit(FZ_TELEX, bytes("a1"), 2, long_text, 96, &v) == 3 && v == 1, "refusal 3 with its place", "fz_commit");
     check(fz_commit(FZ_VNI, bytes("a1"), 2, bytes("\xC3\xA1"), 2, &v) == 0 && v == 0, "a digit is a key of VNI", "fz_commit");
+
+    try_overlap();
 
     /* Spelling, there and back; and its refusals. */
     try_spelled("việt", "vieetj", "vie6t5");

@@ -40,7 +40,7 @@ use Rattle.commit.specs.Rulings.{decided as ruled}
 use Rattle.commit.specs.declared.Ruling.{Ruling}
 use Rattle.commit.specs.declared.Ruling.the-variants.{Keep, Restore, Refused}
 use Rattle.felcantuzza.specs.Calls as Calls
-use Rattle.felcantuzza.specs.Calls.{returned, value, unlessRefused, ofRecord, shownSays, commitOr}
+use Rattle.felcantuzza.specs.Calls.{returned, value, inOne, did, unlessRefused, ofRecord, shownSays, commitOr}
 
 module _ (one : List ℕ → ℕ) (s : Says) {r v : ℕ} where
   pub tells : (ns : List ℕ) → s ≡ answered ns → r ≡ 0 → v ≡ one ns → (r ≡ returned s) × (v ≡ value one s)
@@ -48,6 +48,14 @@ module _ (one : List ℕ → ℕ) (s : Says) {r v : ℕ} where
 
   pub refuses : (n m : ℕ) → s ≡ refused n m → r ≡ n → v ≡ m → (r ≡ returned s) × (v ≡ value one s)
   refuses n m e p q = (p ∙ sym (ap returned e), q ∙ sym (ap (value one) e))
+
+-- what the key did, of a call that also shows
+module _ (s : Says) where
+  pub outcome-told : (bytes : ℕ) (ns : List ℕ) → s ≡ answered (bytes ∷ ns) → inOne ns ≡ did s
+  outcome-told bytes ns e = sym (ap did e)
+
+  pub no-outcome : (n m : ℕ) → s ≡ refused n m → 0 ≡ did s
+  no-outcome n m e = sym (ap did e)
 
 module _ (s : Says) (new old : List ℕ) where
   pub changed : (ns : List ℕ) → s ≡ answered ns → new ≡ unlessRefused s new old

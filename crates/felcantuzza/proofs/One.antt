@@ -29,8 +29,8 @@ fz-start-one κs a r r′ e e′ p p′ = (p .0 ∙ sym (p′ .0), p .1 ∙ sym 
 pub fz-type-one : (κs : Lfts 2) (a : Args fz-type.signature κs) (r r′ : Res fz-type.signature κs) (e e′ : AtExit fz-type.ended κs) → fz-type-reads.Post κs a r e → fz-type-reads.Post κs a r′ e′ → (r ≡ r′) × (now (e .1 .1 .0) ≡ now (e′ .1 .1 .0)) × (now (e .0) ≡ now (e′ .0))
 fz-type-one κs a r r′ e e′ p p′ = (p .0 ∙ sym (p′ .0), p .1 ∙ sym (p′ .1), p .2 ∙ sym (p′ .2))
 
-pub fz-type-and-show-one : (κs : Lfts 3) (a : Args fz-type-and-show.signature κs) (r r′ : Res fz-type-and-show.signature κs) (e e′ : AtExit fz-type-and-show.ended κs) → fz-type-and-show-reads.Post κs a r e → fz-type-and-show-reads.Post κs a r′ e′ → (r ≡ r′) × (now (e .1 .1 .1 .0) ≡ now (e′ .1 .1 .1 .0)) × (now (e .0) ≡ now (e′ .0)) × (now (e .1 .1 .0) ≡ now (e′ .1 .1 .0))
-fz-type-and-show-one κs a r r′ e e′ p p′ = (p .0 ∙ sym (p′ .0), p .1 ∙ sym (p′ .1), p .2 ∙ sym (p′ .2), p .3 ∙ sym (p′ .3))
+pub fz-type-and-show-one : (κs : Lfts 4) (a : Args fz-type-and-show.signature κs) (r r′ : Res fz-type-and-show.signature κs) (e e′ : AtExit fz-type-and-show.ended κs) → fz-type-and-show-reads.Post κs a r e → fz-type-and-show-reads.Post κs a r′ e′ → (r ≡ r′) × (now (e .1 .1 .1 .0) ≡ now (e′ .1 .1 .1 .0)) × (now (e .1 .1 .1 .1 .0) ≡ now (e′ .1 .1 .1 .1 .0)) × (now (e .0) ≡ now (e′ .0)) × (now (e .1 .1 .0) ≡ now (e′ .1 .1 .0))
+fz-type-and-show-one κs a r r′ e e′ p p′ = (p .0 ∙ sym (p′ .0), p .1 ∙ sym (p′ .1), p .2 ∙ sym (p′ .2), p .3 ∙ sym (p′ .3), p .4 ∙ sym (p′ .4))
 
 pub fz-show-one : (κs : Lfts 3) (a : Args fz-show.signature κs) (r r′ : Res fz-show.signature κs) (e e′ : AtExit fz-show.ended κs) → fz-show-reads.Post κs a r e → fz-show-reads.Post κs a r′ e′ → (r ≡ r′) × (now (e .1 .1 .0) ≡ now (e′ .1 .1 .0)) × (now (e .1 .0) ≡ now (e′ .1 .0))
 fz-show-one κs a r r′ e e′ p p′ = (p .0 ∙ sym (p′ .0), p .1 ∙ sym (p′ .1), p .2 ∙ sym (p′ .2))

@@ -3,7 +3,7 @@ use mathlib.Core.Bool.{Bool, true, false}
 use mathlib.Core.List.{List, [], _∷_}
 use mathlib.Core.Option.{Option, none, some}
 use Prim.Native.Nat.{ℕ, _+_, _*_}
-use Rattle.rules.specs.AnswersInNumbers.{Says, refused, answered, refusing, decisionNumber, startSays, stepSays, writeSays, placeSays, verdictSays, decisionSays}
+use Rattle.rules.specs.AnswersInNumbers.{Says, refused, answered, refusing, outcomeNumbers, decisionNumber, startSays, stepSays, writeSays, placeSays, verdictSays, decisionSays}
 use Rattle.rules.specs.Refusals.{refusal}
 use Rattle.rules.specs.Decision as Decided
 use Rattle.rules.specs.WhatComesBack as Rules
@@ -63,10 +63,16 @@ type lent key = ofRecord (asRecord lent .is_record) (stepSays (Rules.step (asRec
 abbrev pub typeWord : List ℕ → ℕ → List ℕ
 typeWord lent key = unlessRefused (type lent key) (recordWritten (Rules.step (asRecord lent .word) key .word) lent) lent
 
--- the bytes written
+-- the bytes written, and behind them what the key did
 abbrev pub shownSays : ShownAnswer → Says
-shownSays (Did o n) = answered (n ∷ [])
+shownSays (Did o n) = answered (n ∷ outcomeNumbers o)
 shownSays (ShownRefused r) = refusing r
+
+-- what the key did, in one as `type` gives it; 0 where the call is refused
+abbrev pub did : Says → ℕ
+did (answered []) = 0
+did (answered (n ∷ ns)) = inOne ns
+did (refused n v) = 0
 
 unfoldable pub typeAndShow : List ℕ → ℕ → List ℕ → Says
 typeAndShow lent key out = ofRecord (asRecord lent .is_record) (shownSays (stepAndShow (asRecord lent .word) key out .result .answer))

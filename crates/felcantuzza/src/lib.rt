@@ -123,55 +123,86 @@ pub extern "C" fn fz_type(lent: &mut [u8], key: u8, value: &mut usize) -> u8
 }
 
 // A key typed and the word shown, into an output that may be too short: the old record is kept until its length is known.
-fn type_and_show_short(lent: &mut [u8], key: u8, out: &mut [u8], value: &mut usize) -> u8
-    ensures { λ r. ⌜ (r ≡ Calls.returned (Calls.typeAndShow (now (lent .entry)) key (now (out .entry)))) × (now (value .exit) ≡ Calls.value Calls.single (Calls.typeAndShow (now (lent .entry)) key (now (out .entry)))) × (now (lent .exit) ≡ Calls.typeAndShowWord (now (lent .entry)) key (now (out .entry))) × (now (out .exit) ≡ Calls.typeAndShowOutput (now (lent .entry)) key (now (out .entry))) ⌝ }
+fn type_and_show_short(
+    lent: &mut [u8],
+    key: u8,
+    out: &mut [u8],
+    did: &mut usize,
+    value: &mut usize,
+) -> u8
+    ensures { λ r. ⌜ (r ≡ Calls.returned (Calls.typeAndShow (now (lent .entry)) key (now (out .entry)))) × (now (did .exit) ≡ Calls.did (Calls.typeAndShow (now (lent .entry)) key (now (out .entry)))) × (now (value .exit) ≡ Calls.value Calls.single (Calls.typeAndShow (now (lent .entry)) key (now (out .entry)))) × (now (lent .exit) ≡ Calls.typeAndShowWord (now (lent .entry)) key (now (out .entry))) × (now (out .exit) ≡ Calls.typeAndShowOutput (now (lent .entry)) key (now (out .entry))) ⌝ }
 {
     let reading = layout::read(lent);
     if !reading.is_record {
+        *did = 0;
         return no_record(value);
     }
     let w = reading.word;
     let shown = press::press(w, key, out);
     let answer = shown.answer;
     match answer {
-        ShownAnswer::Did(_, bytes) => {
+        ShownAnswer::Did(what, bytes) => {
             let next = shown.word;
             layout::write(next, lent);
+            *did = outcome_number(what);
             answered(bytes, value)
         }
-        ShownAnswer::Refused(refusal) => refused(refusal, value),
+        ShownAnswer::Refused(refusal) => {
+            *did = 0;
+            refused(refusal, value)
+        }
     }
 }
 
-// A key typed and the word shown, with one range check; the value is the bytes written. Refusals: 8, 2, 3, 4.
+// A key typed and the word shown, with one range check; `did` is what the key did, as fz_type's value, and 0 where the call is refused;
+// the value is the bytes written. Refusals: 8, 2, 3, 4.
 #[no_mangle]
 pub extern "C" fn fz_type_and_show(
     lent: &mut [u8],
     key: u8,
     out: &mut [u8],
+    did: &mut usize,
     value: &mut usize,
 ) -> u8
-    ensures { λ r. ⌜ (r ≡ Calls.returned (Calls.typeAndShow (now (lent .entry)) key (now (out .entry)))) × (now (value .exit) ≡ Calls.value Calls.single (Calls.typeAndShow (now (lent .entry)) key (now (out .entry)))) × (now (lent .exit) ≡ Calls.typeAndShowWord (now (lent .entry)) key (now (out .entry))) × (now (out .exit) ≡ Calls.typeAndShowOutput (now (lent .entry)) key (now (out .entry))) ⌝ }
+    ensures { λ r. ⌜ (r ≡ Calls.returned (Calls.typeAndShow (now (lent .entry)) key (now (out .entry)))) × (now (did .exit) ≡ Calls.did (Calls.typeAndShow (now (lent .entry)) key (now (out .entry)))) × (now (value .exit) ≡ Calls.value Calls.single (Calls.typeAndShow (now (lent .entry)) key (now (out .entry)))) × (now (lent .exit) ≡ Calls.typeAndShowWord (now (lent .entry)) key (now (out .entry))) × (now (out .exit) ≡ Calls.typeAndShowOutput (now (lent .entry)) key (now (out .entry))) ⌝ }
 {
     if out.len() < Word::TEXT {
-        return type_and_show_short(lent, key, out, value);
+        return type_and_show_short(lent, key, out, did, value);
     }
     let reading = layout::read(lent);
     if !reading.is_record {
+        *did = 0;
         return no_record(value);
     }
     let w = reading.word;
-    let stepped = step::step(w, key);
-    let answer = stepped.answer;
+    let mut letters = w.letters;
+    let mut keys = w.keys;
+    let done = step::step_in(&mut letters, &mut keys, w.mode, records::numbers_of(w), key);
+    let answer = done.answer;
     match answer {
-        StepAnswer::Did(_outcome) => {
-            let typed = stepped.word;
+        StepAnswer::Did(outcome) => {
+            let n = done.numbers;
+            let typed = Word {
+                mode: w.mode,
+                letters: letters,
+                count: n.count,
+                tone: n.tone,
+                closed: n.closed,
+                keys: keys,
+                typed: n.typed,
+                acted: n.acted,
+                undone: n.undone,
+                appended: n.appended,
+            };
             layout::write(typed, lent);
-            let letters = typed.letters;
-            let count = typed.count as usize;
-            answered(show::in_room(&letters[0..count], typed.tone, out), value)
+            *did = outcome_number(outcome);
+            let count = n.count as usize;
+            answered(show::in_room(&letters[0..count], n.tone, out), value)
         }
-        StepAnswer::Refused(refusal) => refused(refusal, value),
+        StepAnswer::Refused(refusal) => {
+            *did = 0;
+            refused(refusal, value)
+        }
     }
 }
 

@@ -2,16 +2,18 @@
 use mathlib.Core.Path.{refl, sym, ap, subst, _∙_}
 use borrow.Author.Needs.{needs}
 use borrow.Author.Tests.{not-true, not-false}
+use Rattle.rules.specs.declared.Step.{Step}
 use Rattle.rules.proofs.StaysInRange.{Whole}
 use Rattle.layout.specs.Places.{recordWritten}
 use Rattle.layout.specs.declared.RecordRead.{RecordRead}
 use Rattle.layout.proofs.RoundTrips.{read-whole}
+use Rattle.step.specs.LentWord.{stepIn}
 use Rattle.press.specs.StepAndShow.{stepAndShow}
 use Rattle.press.specs.declared.StepShown.{StepShown}
 use Rattle.press.proofs.Shows.{refused-so}
 use Rattle.felcantuzza.specs.Calls as Calls
-use Rattle.felcantuzza.proofs.CallAnswers.{tells, refuses, changed, unchanged, none-typed-shown, typed-shown, typed-shown-word, typed-shown-output}
-use Rattle.felcantuzza.proofs.Rooms.{within, with-room}
+use Rattle.felcantuzza.proofs.CallAnswers.{tells, refuses, outcome-told, no-outcome, changed, unchanged, none-typed-shown, typed-shown, typed-shown-word, typed-shown-output}
+use Rattle.felcantuzza.proofs.Rooms.{lent-step, within, with-room}
 use Rattle.felcantuzza.proofs.fz_type_and_show.Statement.{statement}
 use Rattle.felcantuzza.proofs.fz_type_and_show.Tie as tie
 
@@ -33,9 +35,11 @@ fz-type-and-show-spec =
     let said = Calls.typeAndShow (args .lent .now) (args .key) (args .out .now) in
     let e = none-typed-shown (args .lent .now) (read .read .result) (read .read .ensures) (args .key) (args .out .now) (not-true _ (no .if2 .taken)) in
     let t = refuses Calls.single said 8 0 e (c .no-record .ensures .0) (c .no-record .ensures .1) in
-    (t .0, t .1, unchanged said _ (args .lent .now) 8 0 e, unchanged said _ (args .out .now) 8 0 e))
+    (t .0, no-outcome said 8 0 e, t .1, unchanged said _ (args .lent .now) 8 0 e, unchanged said _ (args .out .now) 8 0 e))
+    (λ c κs. search needs)
     (λ c κs. search needs)
     (λ c. search needs)
+    (λ c κs. search needs)
     (λ c κs. search needs)
     (λ c. search needs)
     (λ c. search needs)
@@ -43,12 +47,15 @@ fz-type-and-show-spec =
     (λ c.
     let told = c .before .before .before .before .before .before .before .before .before in
     let done = told .before .before in
-    let read = done .before .before .before .before in
-    let start = read .before .before .before .before .before in
-    let args = start .args in
+    let yes = done .before .before .before .before .before .before .before in
+    let read = yes .before .before in
+    let args = read .before .before .before .before .before .args in
     let w = read .read .result .word in
+    let r = done .step-in .result in
+    let s : Step = stepIn (w .mode) (done .step-in .last .0) (done .step-in .last .1 .0) r in
+    let by-step = lent-step w (args .key) (done .step-in .last .0) (done .step-in .last .1 .0) (done .before .numbers-of .result) r (done .before .numbers-of .ensures) (done .step-in .ensures) in
     let whole : Whole w = subst (λ (x : RecordRead). Whole (x .word)) (sym (read .read .ensures)) (read-whole (args .lent .now)) in
-    within w (args .key) (args .out .now) (done .step .result) (done .step .ensures) whole (told .answer .given .0 .0) (told .answer .given .1))
+    within w (args .key) (args .out .now) s by-step whole (told .answer .given .0 .0) (told .answer .given .1))
     (λ c κs. search needs)
     (λ c κs. search needs)
     (λ c. search needs)
@@ -56,22 +63,27 @@ fz-type-and-show-spec =
     (λ c. search needs)
     (λ c. search needs)
     (λ c.
-    let told = c .before .before .before .before .before .before .before .before .before .before .before .before .before .before .before .before in
-    let done = told .before .before in
-    let read = done .before .before .before .before in
-    let start = read .before .before .before .before .before in
-    let args = start .args in
-    let w = read .read .result .word in
-    let whole : Whole w = subst (λ (x : RecordRead). Whole (x .word)) (sym (read .read .ensures)) (read-whole (args .lent .now)) in
     let filled = c .before .before .before .before in
-    let stored = filled .before .before .before .before .before .before .before .before in
-    let both = with-room w (args .key) (args .out .now) (done .step .result) (done .step .ensures) whole (told .answer .given .0 .0) (told .answer .given .1)
+    let numbered = filled .before .before .before .before .before in
+    let stored = numbered .before .before .before in
+    let told = stored .before .before .before .before in
+    let done = told .before .before in
+    let yes = done .before .before .before .before .before .before .before in
+    let read = yes .before .before in
+    let args = read .before .before .before .before .before .args in
+    let w = read .read .result .word in
+    let r = done .step-in .result in
+    let s : Step = stepIn (w .mode) (done .step-in .last .0) (done .step-in .last .1 .0) r in
+    let by-step = lent-step w (args .key) (done .step-in .last .0) (done .step-in .last .1 .0) (done .before .numbers-of .result) r (done .before .numbers-of .ensures) (done .step-in .ensures) in
+    let whole : Whole w = subst (λ (x : RecordRead). Whole (x .word)) (sym (read .read .ensures)) (read-whole (args .lent .now)) in
+    let both = with-room w (args .key) (args .out .now) s by-step whole (told .answer .given .0 .0) (told .answer .given .1)
     (filled .in-room .result) _ (read .before .before .if1 .left) (filled .in-room .ensures .0) (filled .in-room .ensures .1) in
     let said = Calls.typeAndShow (args .lent .now) (args .key) (args .out .now) in
     let all = stepAndShow w (args .key) (args .out .now) .result in
-    let e = typed-shown (args .lent .now) (read .read .result) (read .read .ensures) (args .key) (args .out .now) all refl (not-false _ (done .before .before .if2 .left)) _ (sym (ap (λ (x : StepShown). x .answer) (both .0))) in
+    let e = typed-shown (args .lent .now) (read .read .result) (read .read .ensures) (args .key) (args .out .now) all refl (not-false _ (yes .if2 .left)) _ (sym (ap (λ (x : StepShown). x .answer) (both .0))) in
     let t = tells Calls.single said _ e (c .answered .ensures .0) (c .answered .ensures .1) in (
       t .0,
+      numbered .outcome-number .ensures ∙ outcome-told said _ _ e,
       t .1,
       stored .write .ensures .1 ∙ ap (λ (x : StepShown). recordWritten (x .word) (args .lent .now)) (both .0) ∙ typed-shown-word (args .lent .now) (read .read .result) (read .read .ensures) (args .key) (args .out .now) all refl ∙ changed said _ (args .lent .now) _ e,
       both .1 ∙ typed-shown-output (args .lent .now) (read .read .result) (read .read .ensures) (args .key) (args .out .now) ∙ changed said _ (args .out .now) _ e,
@@ -80,12 +92,16 @@ fz-type-and-show-spec =
     (λ c.
     let told = c .before .before .before in
     let done = told .before .before in
-    let read = done .before .before .before .before in
+    let yes = done .before .before .before .before .before .before .before in
+    let read = yes .before .before in
     let args = read .before .before .before .before .before .args in
     let w = read .read .result .word in
-    let no = refused-so w (args .key) (args .out .now) (done .step .result) (done .step .ensures) (told .answer2 .given .0 .0) (told .answer2 .given .1) in
+    let r = done .step-in .result in
+    let s : Step = stepIn (w .mode) (done .step-in .last .0) (done .step-in .last .1 .0) r in
+    let by-step = lent-step w (args .key) (done .step-in .last .0) (done .step-in .last .1 .0) (done .before .numbers-of .result) r (done .before .numbers-of .ensures) (done .step-in .ensures) in
+    let no = refused-so w (args .key) (args .out .now) s by-step (told .answer2 .given .0 .0) (told .answer2 .given .1) in
     let said = Calls.typeAndShow (args .lent .now) (args .key) (args .out .now) in
     let all = stepAndShow w (args .key) (args .out .now) .result in
-    let e = typed-shown (args .lent .now) (read .read .result) (read .read .ensures) (args .key) (args .out .now) all refl (not-false _ (done .before .before .if2 .left)) _ (sym (ap (λ (x : StepShown). x .answer) (no .0))) in
+    let e = typed-shown (args .lent .now) (read .read .result) (read .read .ensures) (args .key) (args .out .now) all refl (not-false _ (yes .if2 .left)) _ (sym (ap (λ (x : StepShown). x .answer) (no .0))) in
     let t = refuses Calls.single said _ _ e (c .refused .ensures .0) (c .refused .ensures .1) in
-    (t .0, t .1, unchanged said _ (args .lent .now) _ _ e, unchanged said _ (args .out .now) _ _ e)))
+    (t .0, no-outcome said _ _ e, t .1, unchanged said _ (args .lent .now) _ _ e, unchanged said _ (args .out .now) _ _ e)))

@@ -31,7 +31,7 @@ use Rattle.rules.specs.declared.DecisionAnswer.{DecisionAnswer}
 use Rattle.rules.proofs.Refused.{refused-show}
 use Rattle.layout.specs.Places.{asRecord, recordWritten}
 use Rattle.layout.specs.declared.RecordRead.{RecordRead}
-use Rattle.press.specs.StepAndShow.{showOr, stepOr, stepAndShow}
+use Rattle.press.specs.StepAndShow.{showOr, pressedOr, stepAndShow}
 use Rattle.press.specs.declared.StepShown.{StepShown}
 use Rattle.press.specs.declared.ShownAnswer.{ShownAnswer}
 use Rattle.press.specs.declared.ShownAnswer.the-variants.{Refused as ShownRefused}
@@ -40,14 +40,14 @@ use Rattle.commit.specs.Rulings.{decided as ruled}
 use Rattle.commit.specs.declared.Ruling.{Ruling}
 use Rattle.commit.specs.declared.Ruling.the-variants.{Keep, Restore, Refused}
 use Rattle.felcantuzza.specs.Calls as Calls
-use Rattle.felcantuzza.specs.Calls.{returned, value, inOne, did, unlessRefused, ofRecord, shownSays, commitOr}
+use Rattle.felcantuzza.specs.Calls.{returned, valueBy, inOne, did, unlessRefused, ofRecord, shownSays, commitOr}
 
 module _ (one : List ℕ → ℕ) (s : Says) {r v : ℕ} where
-  pub tells : (ns : List ℕ) → s ≡ answered ns → r ≡ 0 → v ≡ one ns → (r ≡ returned s) × (v ≡ value one s)
-  tells ns e p q = (p ∙ sym (ap returned e), q ∙ sym (ap (value one) e))
+  pub tells : (ns : List ℕ) → s ≡ answered ns → r ≡ 0 → v ≡ one ns → (r ≡ returned s) × (v ≡ valueBy one s)
+  tells ns e p q = (p ∙ sym (ap returned e), q ∙ sym (ap (valueBy one) e))
 
-  pub refuses : (n m : ℕ) → s ≡ refused n m → r ≡ n → v ≡ m → (r ≡ returned s) × (v ≡ value one s)
-  refuses n m e p q = (p ∙ sym (ap returned e), q ∙ sym (ap (value one) e))
+  pub refuses : (n m : ℕ) → s ≡ refused n m → r ≡ n → v ≡ m → (r ≡ returned s) × (v ≡ valueBy one s)
+  refuses n m e p q = (p ∙ sym (ap returned e), q ∙ sym (ap (valueBy one) e))
 
 -- what the key did, of a call that also shows
 module _ (s : Says) where
@@ -170,7 +170,7 @@ refused-both w key out x = by-step (Rules.step w key .answer) (Rules.step w key 
     by-show o new (Wrote n) p e = let z : _≡_ {A = ℕ} 0 1 = cc in absurd (omega arith)
     by-show o new (WriteRefused y) p e = refused-show new out y (ap writeSays p)
 
-    by-step : (a : StepAnswer) (new : Word) → stepOr a w new out .result .answer ≡ ShownRefused x → stepOr a w new out .output ≡ out
+    by-step : (a : StepAnswer) (new : Word) → pressedOr a w new out .result .answer ≡ ShownRefused x → pressedOr a w new out .output ≡ out
     by-step (Stepped o) new e = by-show o new (Rules.show new out .answer) refl e
     by-step (StepRefused y) new e = refl
 

@@ -21,9 +21,9 @@ returned (answered ns) = 0
 returned (refused n v) = n
 
 -- the answer's numbers as one, or the refusal's value
-abbrev pub value : (List ℕ → ℕ) → Says → ℕ
-value one (answered ns) = one ns
-value one (refused n v) = v
+abbrev pub valueBy : (List ℕ → ℕ) → Says → ℕ
+valueBy one (answered ns) = one ns
+valueBy one (refused n v) = v
 
 -- 16 times the kind of what a key did, and the tone or the shape
 abbrev pub inOne : List ℕ → ℕ
@@ -32,9 +32,9 @@ inOne (kind ∷ []) = 16 * kind
 inOne (kind ∷ detail ∷ ns) = 16 * kind + detail
 
 -- a single number; 0 where there is none
-abbrev pub single : List ℕ → ℕ
-single [] = 0
-single (n ∷ ns) = n
+abbrev pub onlyOne : List ℕ → ℕ
+onlyOne [] = 0
+onlyOne (n ∷ ns) = n
 
 -- the place of the tone; 255 where it has none
 abbrev pub placed : List ℕ → ℕ

@@ -83,7 +83,7 @@ fn decision_number(decision: Decision) -> usize
 // A new word in a mode. Refusals: 8, 1.
 #[no_mangle]
 pub extern "C" fn fz_start(mode: u8, lent: &mut [u8], value: &mut usize) -> u8
-    ensures { λ r. ⌜ (r ≡ Calls.returned (Calls.start mode (now (lent .entry)))) × (now (value .exit) ≡ Calls.value Calls.single (Calls.start mode (now (lent .entry)))) × (now (lent .exit) ≡ Calls.startWord mode (now (lent .entry))) ⌝ }
+    ensures { λ r. ⌜ (r ≡ Calls.returned (Calls.start mode (now (lent .entry)))) × (now (value .exit) ≡ Calls.valueBy Calls.onlyOne (Calls.start mode (now (lent .entry)))) × (now (lent .exit) ≡ Calls.startWord mode (now (lent .entry))) ⌝ }
 {
     if lent.len() != layout::LENGTH {
         return no_record(value);
@@ -103,7 +103,7 @@ pub extern "C" fn fz_start(mode: u8, lent: &mut [u8], value: &mut usize) -> u8
 // A key typed; the value is what it did. Refusals: 8, 2, 3.
 #[no_mangle]
 pub extern "C" fn fz_type(lent: &mut [u8], key: u8, value: &mut usize) -> u8
-    ensures { λ r. ⌜ (r ≡ Calls.returned (Calls.type (now (lent .entry)) key)) × (now (value .exit) ≡ Calls.value Calls.inOne (Calls.type (now (lent .entry)) key)) × (now (lent .exit) ≡ Calls.typeWord (now (lent .entry)) key) ⌝ }
+    ensures { λ r. ⌜ (r ≡ Calls.returned (Calls.type (now (lent .entry)) key)) × (now (value .exit) ≡ Calls.valueBy Calls.inOne (Calls.type (now (lent .entry)) key)) × (now (lent .exit) ≡ Calls.typeWord (now (lent .entry)) key) ⌝ }
 {
     let reading = layout::read(lent);
     if !reading.is_record {
@@ -130,7 +130,7 @@ fn type_and_show_short(
     did: &mut usize,
     value: &mut usize,
 ) -> u8
-    ensures { λ r. ⌜ (r ≡ Calls.returned (Calls.typeAndShow (now (lent .entry)) key (now (out .entry)))) × (now (did .exit) ≡ Calls.did (Calls.typeAndShow (now (lent .entry)) key (now (out .entry)))) × (now (value .exit) ≡ Calls.value Calls.single (Calls.typeAndShow (now (lent .entry)) key (now (out .entry)))) × (now (lent .exit) ≡ Calls.typeAndShowWord (now (lent .entry)) key (now (out .entry))) × (now (out .exit) ≡ Calls.typeAndShowOutput (now (lent .entry)) key (now (out .entry))) ⌝ }
+    ensures { λ r. ⌜ (r ≡ Calls.returned (Calls.typeAndShow (now (lent .entry)) key (now (out .entry)))) × (now (did .exit) ≡ Calls.did (Calls.typeAndShow (now (lent .entry)) key (now (out .entry)))) × (now (value .exit) ≡ Calls.valueBy Calls.onlyOne (Calls.typeAndShow (now (lent .entry)) key (now (out .entry)))) × (now (lent .exit) ≡ Calls.typeAndShowWord (now (lent .entry)) key (now (out .entry))) × (now (out .exit) ≡ Calls.typeAndShowOutput (now (lent .entry)) key (now (out .entry))) ⌝ }
 {
     let reading = layout::read(lent);
     if !reading.is_record {
@@ -164,7 +164,7 @@ pub extern "C" fn fz_type_and_show(
     did: &mut usize,
     value: &mut usize,
 ) -> u8
-    ensures { λ r. ⌜ (r ≡ Calls.returned (Calls.typeAndShow (now (lent .entry)) key (now (out .entry)))) × (now (did .exit) ≡ Calls.did (Calls.typeAndShow (now (lent .entry)) key (now (out .entry)))) × (now (value .exit) ≡ Calls.value Calls.single (Calls.typeAndShow (now (lent .entry)) key (now (out .entry)))) × (now (lent .exit) ≡ Calls.typeAndShowWord (now (lent .entry)) key (now (out .entry))) × (now (out .exit) ≡ Calls.typeAndShowOutput (now (lent .entry)) key (now (out .entry))) ⌝ }
+    ensures { λ r. ⌜ (r ≡ Calls.returned (Calls.typeAndShow (now (lent .entry)) key (now (out .entry)))) × (now (did .exit) ≡ Calls.did (Calls.typeAndShow (now (lent .entry)) key (now (out .entry)))) × (now (value .exit) ≡ Calls.valueBy Calls.onlyOne (Calls.typeAndShow (now (lent .entry)) key (now (out .entry)))) × (now (lent .exit) ≡ Calls.typeAndShowWord (now (lent .entry)) key (now (out .entry))) × (now (out .exit) ≡ Calls.typeAndShowOutput (now (lent .entry)) key (now (out .entry))) ⌝ }
 {
     if out.len() < Word::TEXT {
         return type_and_show_short(lent, key, out, did, value);
@@ -209,7 +209,7 @@ pub extern "C" fn fz_type_and_show(
 // The word shown; the value is the bytes written. Refusals: 8, 4.
 #[no_mangle]
 pub extern "C" fn fz_show(lent: &[u8], out: &mut [u8], value: &mut usize) -> u8
-    ensures { λ r. ⌜ (r ≡ Calls.returned (Calls.show (now (lent .entry)) (now (out .entry)))) × (now (value .exit) ≡ Calls.value Calls.single (Calls.show (now (lent .entry)) (now (out .entry)))) × (now (out .exit) ≡ Calls.showOutput (now (lent .entry)) (now (out .entry))) ⌝ }
+    ensures { λ r. ⌜ (r ≡ Calls.returned (Calls.show (now (lent .entry)) (now (out .entry)))) × (now (value .exit) ≡ Calls.valueBy Calls.onlyOne (Calls.show (now (lent .entry)) (now (out .entry)))) × (now (out .exit) ≡ Calls.showOutput (now (lent .entry)) (now (out .entry))) ⌝ }
 {
     let reading = layout::read(lent);
     if !reading.is_record {
@@ -225,7 +225,7 @@ pub extern "C" fn fz_show(lent: &[u8], out: &mut [u8], value: &mut usize) -> u8
 // The verdict on the word. Refusals: 8.
 #[no_mangle]
 pub extern "C" fn fz_verdict(lent: &[u8], value: &mut usize) -> u8
-    ensures { λ r. ⌜ (r ≡ Calls.returned (Calls.verdict (now (lent .entry)))) × (now (value .exit) ≡ Calls.value Calls.single (Calls.verdict (now (lent .entry)))) ⌝ }
+    ensures { λ r. ⌜ (r ≡ Calls.returned (Calls.verdict (now (lent .entry)))) × (now (value .exit) ≡ Calls.valueBy Calls.onlyOne (Calls.verdict (now (lent .entry)))) ⌝ }
 {
     let reading = layout::read(lent);
     if !reading.is_record {
@@ -241,7 +241,7 @@ pub extern "C" fn fz_verdict(lent: &[u8], value: &mut usize) -> u8
 // The place of the tone, 255 where there is none. Refusals: 8.
 #[no_mangle]
 pub extern "C" fn fz_place(lent: &[u8], value: &mut usize) -> u8
-    ensures { λ r. ⌜ (r ≡ Calls.returned (Calls.place (now (lent .entry)))) × (now (value .exit) ≡ Calls.value Calls.placed (Calls.place (now (lent .entry)))) ⌝ }
+    ensures { λ r. ⌜ (r ≡ Calls.returned (Calls.place (now (lent .entry)))) × (now (value .exit) ≡ Calls.valueBy Calls.placed (Calls.place (now (lent .entry)))) ⌝ }
 {
     let reading = layout::read(lent);
     if !reading.is_record {
@@ -257,7 +257,7 @@ pub extern "C" fn fz_place(lent: &[u8], value: &mut usize) -> u8
 // The decision on the word: 0 keep, 1 restore. Refusals: 8.
 #[no_mangle]
 pub extern "C" fn fz_decision(lent: &[u8], value: &mut usize) -> u8
-    ensures { λ r. ⌜ (r ≡ Calls.returned (Calls.decision (now (lent .entry)))) × (now (value .exit) ≡ Calls.value Calls.single (Calls.decision (now (lent .entry)))) ⌝ }
+    ensures { λ r. ⌜ (r ≡ Calls.returned (Calls.decision (now (lent .entry)))) × (now (value .exit) ≡ Calls.valueBy Calls.onlyOne (Calls.decision (now (lent .entry)))) ⌝ }
 {
     let reading = layout::read(lent);
     if !reading.is_record {
@@ -273,7 +273,7 @@ pub extern "C" fn fz_decision(lent: &[u8], value: &mut usize) -> u8
 // Commit and its question in one: 0 the text is kept, 1 the keys are handed back. Refusals: 1, 2 (32), 2 (96), 3, 5.
 #[no_mangle]
 pub extern "C" fn fz_commit(mode: u8, keys: &[u8], text: &[u8], value: &mut usize) -> u8
-    ensures { λ r. ⌜ (r ≡ Calls.returned (Calls.commit mode (now (keys .entry)) (now (text .entry)))) × (now (value .exit) ≡ Calls.value Calls.single (Calls.commit mode (now (keys .entry)) (now (text .entry)))) ⌝ }
+    ensures { λ r. ⌜ (r ≡ Calls.returned (Calls.commit mode (now (keys .entry)) (now (text .entry)))) × (now (value .exit) ≡ Calls.valueBy Calls.onlyOne (Calls.commit mode (now (keys .entry)) (now (text .entry)))) ⌝ }
 {
     match commit::rule(mode, keys, text) {
         Ruling::Keep(_) => answered(0, value),
@@ -285,7 +285,7 @@ pub extern "C" fn fz_commit(mode: u8, keys: &[u8], text: &[u8], value: &mut usiz
 // A shown syllable as its standard key list; the value is the keys written. Refusals: 1, 2 (96), 6, 7, 4.
 #[no_mangle]
 pub extern "C" fn fz_spell(mode: u8, text: &[u8], out: &mut [u8], value: &mut usize) -> u8
-    ensures { λ r. ⌜ (r ≡ Calls.returned (Calls.spell mode (now (text .entry)) (now (out .entry)))) × (now (value .exit) ≡ Calls.value Calls.single (Calls.spell mode (now (text .entry)) (now (out .entry)))) × (now (out .exit) ≡ Calls.spellOutput mode (now (text .entry)) (now (out .entry))) ⌝ }
+    ensures { λ r. ⌜ (r ≡ Calls.returned (Calls.spell mode (now (text .entry)) (now (out .entry)))) × (now (value .exit) ≡ Calls.valueBy Calls.onlyOne (Calls.spell mode (now (text .entry)) (now (out .entry)))) × (now (out .exit) ≡ Calls.spellOutput mode (now (text .entry)) (now (out .entry))) ⌝ }
 {
     match speller::spell(mode, text, out) {
         WriteAnswer::Wrote(keys) => answered(keys, value),

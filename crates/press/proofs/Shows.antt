@@ -21,14 +21,14 @@ use Rattle.rules.proofs.Tests.{is-false}
 use Rattle.rules.proofs.StaysInRange.{Whole, step-in-range}
 use Rattle.show.specs.Filling.{textOut}
 use Rattle.show.proofs.Answers.{shown-so}
-use Rattle.press.specs.StepAndShow.{Shown, showOr, stepOr, stepAndShow}
+use Rattle.press.specs.StepAndShow.{Shown, showOr, pressedOr, stepAndShow}
 use Rattle.press.specs.declared.ShownAnswer.the-variants.{Refused}
 use Rattle.step.proofs.Steps.{out-of-range}
 
 module _ (w : Word) (k : ℕ) (out : List ℕ) (s : Step) (e : s ≡ step w k) where
-  by-step : (a : StepAnswer) → s .answer ≡ a → stepAndShow w k out ≡ stepOr a w (s .word) out
+  by-step : (a : StepAnswer) → s .answer ≡ a → stepAndShow w k out ≡ pressedOr a w (s .word) out
   unfolding stepAndShow
-  by-step a d = ap₂ (λ (x : StepAnswer) (y : Word). stepOr x w y out) (sym (ap (λ (x : Step). x .answer) e) ∙ d) (sym (ap (λ (x : Step). x .word) e))
+  by-step a d = ap₂ (λ (x : StepAnswer) (y : Word). pressedOr x w y out) (sym (ap (λ (x : Step). x .answer) e) ∙ d) (sym (ap (λ (x : Step). x .word) e))
 
   pub refused-so : (x : Refusal) → s .answer ≡ StepRefused x → (record { answer = Refused x; word = w } ≡ stepAndShow w k out .result) × (out ≡ stepAndShow w k out .output)
   refused-so x d = let p = by-step (StepRefused x) d in (sym (ap (λ (y : Shown). y .result) p), sym (ap (λ (y : Shown). y .output) p))

@@ -22,9 +22,9 @@ abbrev pub showOr : WriteAnswer → Outcome → Word → Word → StepShown
 showOr (Wrote n) o old new = record { answer = Did o n; word = new }
 showOr (WriteRefused r) o old new = record { answer = Refused r; word = old }
 
-abbrev pub stepOr : StepAnswer → Word → Word → List ℕ → Shown
-stepOr (Stepped o) old new out = record { result = showOr (show new out .answer) o old new; output = show new out .output }
-stepOr (StepRefused r) old new out = record { result = record { answer = Refused r; word = old }; output = out }
+abbrev pub pressedOr : StepAnswer → Word → Word → List ℕ → Shown
+pressedOr (Stepped o) old new out = record { result = showOr (show new out .answer) o old new; output = show new out .output }
+pressedOr (StepRefused r) old new out = record { result = record { answer = Refused r; word = old }; output = out }
 
 unfoldable pub stepAndShow : Word → ℕ → List ℕ → Shown
-stepAndShow w k out = stepOr (step w k .answer) w (step w k .word) out
+stepAndShow w k out = pressedOr (step w k .answer) w (step w k .word) out

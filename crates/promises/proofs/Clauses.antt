@@ -38,6 +38,8 @@ use Rattle.felcantuzza.proofs.fz_start as fz-start
 use Rattle.felcantuzza.proofs.fz_start.Reads as fz-start-reads
 use Rattle.felcantuzza.proofs.fz_type as fz-type
 use Rattle.felcantuzza.proofs.fz_type.Reads as fz-type-reads
+use Rattle.felcantuzza.proofs.fz_type_and_show as fz-type-and-show
+use Rattle.felcantuzza.proofs.fz_type_and_show.Reads as fz-type-and-show-reads
 use Rattle.felcantuzza.proofs.fz_show as fz-show
 use Rattle.felcantuzza.proofs.fz_show.Reads as fz-show-reads
 use Rattle.felcantuzza.proofs.fz_verdict as fz-verdict
@@ -111,3 +113,6 @@ module _ {M : Type 1} (𝓤 : URA M) (H : Heap 𝓤) (A : Atoms 𝓤) (mem : Mem
 
   pub fz-spell-clause : (κs : Lfts 3) (a : Args fz-spell.signature κs) (r : Res fz-spell.signature κs) (e : AtExit fz-spell.ended κs) → fz-spell.clauses 𝓤 H A mem run κs a .ensures tt r e ≡ fact 𝓤 (fz-spell-reads.Post κs a r e)
   fz-spell-clause κs a r e = refl
+
+  pub fz-type-and-show-clause : (κs : Lfts 4) (a : Args fz-type-and-show.signature κs) (r : Res fz-type-and-show.signature κs) (e : AtExit fz-type-and-show.ended κs) → fz-type-and-show.clauses 𝓤 H A mem run κs a .ensures tt r e ≡ fact 𝓤 (fz-type-and-show-reads.Post κs a r e)
+  fz-type-and-show-clause κs a r e = refl

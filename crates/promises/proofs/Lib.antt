@@ -6,6 +6,7 @@ pub mod EachKey
 pub mod EachSyllable
 pub mod RoundTrip
 pub mod Committed
+pub mod Pressed
 pub mod Box
 pub mod Demands
 pub mod Clauses

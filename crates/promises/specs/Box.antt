@@ -1,7 +1,8 @@
 -- Demand 1 for the calls of the box, of whatever their contracts allow: the number returned, the value and the lent bytes. How a record lies in 104 bytes is said in layout/specs/Places.antt, how the values of an answer are one number in felcantuzza/specs/Calls.antt.
 use mathlib.Core.Path.{_≡_}
 use mathlib.Core.Bool.{Bool, true, not}
-use mathlib.Core.List.{List}
+use mathlib.Core.List.{List, [], _∷_}
+use mathlib.Core.Option.{none, some}
 use Prim.Native.Nat.{ℕ}
 use contract.Lifetimes.{Lfts}
 use denote.Ref.{now}
@@ -27,6 +28,8 @@ use Rattle.felcantuzza.proofs.fz_start as fz-start
 use Rattle.felcantuzza.proofs.fz_start.Reads as fz-start-reads
 use Rattle.felcantuzza.proofs.fz_type as fz-type
 use Rattle.felcantuzza.proofs.fz_type.Reads as fz-type-reads
+use Rattle.felcantuzza.proofs.fz_type_and_show as fz-type-and-show
+use Rattle.felcantuzza.proofs.fz_type_and_show.Reads as fz-type-and-show-reads
 use Rattle.felcantuzza.proofs.fz_show as fz-show
 use Rattle.felcantuzza.proofs.fz_show.Reads as fz-show-reads
 use Rattle.felcantuzza.proofs.fz_verdict as fz-verdict
@@ -60,6 +63,19 @@ pub record FzTypeAllows (before : List ℕ) (key : ℕ) (returned value : ℕ) (
   pub at-exit : now (exit .0) ≡ after
   pub its-value : now (exit .1 .1 .0) ≡ value
   pub post : fz-type-reads.Post lifetimes args returned exit
+
+pub record FzTypeAndShowAllows (before : List ℕ) (key : ℕ) (out : List ℕ) (returned did value : ℕ) (after out-after : List ℕ) : Type 0 where
+  pub lifetimes : Lfts 4
+  pub args : Args fz-type-and-show.signature lifetimes
+  pub exit : AtExit fz-type-and-show.ended lifetimes
+  pub at-entry : now (args .0) ≡ before
+  pub of-key : args .1 .0 ≡ key
+  pub out-at-entry : now (args .1 .1 .0) ≡ out
+  pub at-exit : now (exit .0) ≡ after
+  pub out-at-exit : now (exit .1 .1 .0) ≡ out-after
+  pub its-did : now (exit .1 .1 .1 .0) ≡ did
+  pub its-value : now (exit .1 .1 .1 .1 .0) ≡ value
+  pub post : fz-type-and-show-reads.Post lifetimes args returned exit
 
 pub record FzShowAllows (lent before : List ℕ) (returned value : ℕ) (after : List ℕ) : Type 0 where
   pub lifetimes : Lfts 3
@@ -129,6 +145,17 @@ held lent = asRecord lent .word
 abbrev pub isRecord : List ℕ → Bool
 isRecord lent = asRecord lent .is_record
 
+-- a key typed and the word shown, as one call: a record, a key, and an output for the text after it
+abbrev pub pressCall : Word → ℕ → List ℕ → Call
+pressCall w k out =
+    record {
+      record? = some w;
+      mode? = none;
+      keys? = some (record { mode = w .mode; already = w .typed; bytes = k ∷ [] });
+      text? = none;
+      room? = some (record { needed = length (shown (type (wordOf w) k .state)); there = length out });
+    }
+
 -- Each call returns 0 and its value, or the refusal's number and value; after a refusal every lent byte is as it was.
 pub record BoxAnswers : Type 0 where
   -- a buffer of another length than a record's cannot take one
@@ -137,6 +164,16 @@ pub record BoxAnswers : Type 0 where
   pub typing : (before after : List ℕ) (key r v : ℕ) → FzTypeAllows before key r v after →
       OnBytes {R = ℕ × ℕ × List ℕ} (isRecord before) (stepCall (held before) key) (r, v, after)
       (0, inOne (outcomeNumbers (outcomeOf (keyDoes (wordOf (held before)) key))), asBytes (holding (held before) (type (wordOf (held before)) key))) (λ x. (x .number, x .value, before))
+  -- the key typed and the word shown: what the key did, and the bytes of text; refused, neither is done
+  pub pressing : (before out after out-after : List ℕ) (key r d v : ℕ) → FzTypeAndShowAllows before key out r d v after out-after →
+      OnBytes {R = ℕ × ℕ × ℕ × List ℕ × List ℕ} (isRecord before) (pressCall (held before) key out) (r, d, v, after, out-after) (
+        0,
+        inOne (outcomeNumbers (outcomeOf (keyDoes (wordOf (held before)) key))),
+        length (shown (type (wordOf (held before)) key .state)),
+        asBytes (holding (held before) (type (wordOf (held before)) key)),
+        atFront (shown (type (wordOf (held before)) key .state)) out,
+      )
+      (λ x. (x .number, 0, x .value, before, out))
   pub showing : (lent before after : List ℕ) (r v : ℕ) → FzShowAllows lent before r v after →
       OnBytes {R = ℕ × ℕ × List ℕ} (isRecord lent) (showCall (held lent) before) (r, v, after)
       (0, length (shown (wordOf (held lent) .state)), atFront (shown (wordOf (held lent) .state)) before) (λ x. (x .number, x .value, before))
@@ -155,6 +192,8 @@ pub record BoxAnswers : Type 0 where
 pub record BoxTight : Type 0 where
   pub starting : (mode : ℕ) (before after after′ : List ℕ) (r r′ v v′ : ℕ) → FzStartAllows mode before r v after → FzStartAllows mode before r′ v′ after′ → (r ≡ r′) × (v ≡ v′) × (after ≡ after′)
   pub typing : (before after after′ : List ℕ) (key r r′ v v′ : ℕ) → FzTypeAllows before key r v after → FzTypeAllows before key r′ v′ after′ → (r ≡ r′) × (v ≡ v′) × (after ≡ after′)
+  pub pressing : (before out after after′ out-after out-after′ : List ℕ) (key r r′ d d′ v v′ : ℕ) → FzTypeAndShowAllows before key out r d v after out-after → FzTypeAndShowAllows before key out r′ d′ v′ after′ out-after′ →
+      (r ≡ r′) × (d ≡ d′) × (v ≡ v′) × (after ≡ after′) × (out-after ≡ out-after′)
   pub showing : (lent before after after′ : List ℕ) (r r′ v v′ : ℕ) → FzShowAllows lent before r v after → FzShowAllows lent before r′ v′ after′ → (r ≡ r′) × (v ≡ v′) × (after ≡ after′)
   pub judging : (lent : List ℕ) (r r′ v v′ : ℕ) → FzVerdictAllows lent r v → FzVerdictAllows lent r′ v′ → (r ≡ r′) × (v ≡ v′)
   pub placing : (lent : List ℕ) (r r′ v v′ : ℕ) → FzPlaceAllows lent r v → FzPlaceAllows lent r′ v′ → (r ≡ r′) × (v ≡ v′)
@@ -166,6 +205,7 @@ pub record BoxTight : Type 0 where
 pub record BoxPossible : Type 0 where
   pub starting : (mode : ℕ) (before : List ℕ) → (r : ℕ) × (v : ℕ) × (after : List ℕ) × FzStartAllows mode before r v after
   pub typing : (before : List ℕ) (key : ℕ) → (r : ℕ) × (v : ℕ) × (after : List ℕ) × FzTypeAllows before key r v after
+  pub pressing : (before : List ℕ) (key : ℕ) (out : List ℕ) → (r : ℕ) × (d : ℕ) × (v : ℕ) × (after : List ℕ) × (out-after : List ℕ) × FzTypeAndShowAllows before key out r d v after out-after
   pub showing : (lent before : List ℕ) → (r : ℕ) × (v : ℕ) × (after : List ℕ) × FzShowAllows lent before r v after
   pub judging : (lent : List ℕ) → (r : ℕ) × (v : ℕ) × FzVerdictAllows lent r v
   pub placing : (lent : List ℕ) → (r : ℕ) × (v : ℕ) × FzPlaceAllows lent r v

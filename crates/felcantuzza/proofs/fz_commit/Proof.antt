@@ -21,16 +21,16 @@ fz-commit-spec =
     let ruled = known .before .before in
     let args = ruled .before .before .before .args in
     let e = committed (args .mode) (args .keys .now) (args .text .now) (ruled .rule .result) _ (ruled .rule .ensures) (known .enum-told .given .1) in
-    tells Calls.single (Calls.commit (args .mode) (args .keys .now) (args .text .now)) _ e (c .answered .ensures .0) (c .answered .ensures .1))
+    tells Calls.onlyOne (Calls.commit (args .mode) (args .keys .now) (args .text .now)) _ e (c .answered .ensures .0) (c .answered .ensures .1))
     (λ c.
     let known = c .before .before in
     let ruled = known .before .before in
     let args = ruled .before .before .before .args in
     let e = committed (args .mode) (args .keys .now) (args .text .now) (ruled .rule .result) _ (ruled .rule .ensures) (known .enum-told2 .given .1) in
-    tells Calls.single (Calls.commit (args .mode) (args .keys .now) (args .text .now)) _ e (c .answered2 .ensures .0) (c .answered2 .ensures .1))
+    tells Calls.onlyOne (Calls.commit (args .mode) (args .keys .now) (args .text .now)) _ e (c .answered2 .ensures .0) (c .answered2 .ensures .1))
     (λ c.
     let known = c .before .before .before in
     let ruled = known .before .before in
     let args = ruled .before .before .before .args in
     let e = committed (args .mode) (args .keys .now) (args .text .now) (ruled .rule .result) _ (ruled .rule .ensures) (known .refusal .given .1) in
-    refuses Calls.single (Calls.commit (args .mode) (args .keys .now) (args .text .now)) _ _ e (c .refused .ensures .0) (c .refused .ensures .1)))
+    refuses Calls.onlyOne (Calls.commit (args .mode) (args .keys .now) (args .text .now)) _ _ e (c .refused .ensures .0) (c .refused .ensures .1)))

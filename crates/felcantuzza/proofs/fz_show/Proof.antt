@@ -20,7 +20,7 @@ fz-show-spec =
     let read = no .before .before in
     let args = read .before .before .before .args in
     let e = none-shown (args .lent .now) (read .read .result) (read .read .ensures) (args .out .now) (not-true _ (no .if1 .taken)) in
-    let t = refuses Calls.single (Calls.show (args .lent .now) (args .out .now)) 8 0 e (c .no-record .ensures .0) (c .no-record .ensures .1) in
+    let t = refuses Calls.onlyOne (Calls.show (args .lent .now) (args .out .now)) 8 0 e (c .no-record .ensures .0) (c .no-record .ensures .1) in
     (t .0, t .1, unchanged (Calls.show (args .lent .now) (args .out .now)) _ (args .out .now) 8 0 e))
     (λ c κs. search needs)
     (λ c. search needs)
@@ -35,7 +35,7 @@ fz-show-spec =
     let read = yes .before .before in
     let args = read .before .before .before .args in
     let e = shown (args .lent .now) (read .read .result) (read .read .ensures) (args .out .now) (not-false _ (yes .if1 .left)) (wrote .show .result) _ (wrote .show .ensures .0) (found .bytes .given .1) in
-    let t = tells Calls.single (Calls.show (args .lent .now) (args .out .now)) _ e (c .answered .ensures .0) (c .answered .ensures .1) in
+    let t = tells Calls.onlyOne (Calls.show (args .lent .now) (args .out .now)) _ e (c .answered .ensures .0) (c .answered .ensures .1) in
     (t .0, t .1, wrote .show .ensures .1 ∙ shown-output (args .lent .now) (read .read .result) (read .read .ensures) (args .out .now) ∙ changed (Calls.show (args .lent .now) (args .out .now)) _ (args .out .now) _ e))
     (λ c. search needs)
     (λ c.
@@ -45,5 +45,5 @@ fz-show-spec =
     let read = yes .before .before in
     let args = read .before .before .before .args in
     let e = shown (args .lent .now) (read .read .result) (read .read .ensures) (args .out .now) (not-false _ (yes .if1 .left)) (wrote .show .result) _ (wrote .show .ensures .0) (found .refusal .given .1) in
-    let t = refuses Calls.single (Calls.show (args .lent .now) (args .out .now)) _ _ e (c .refused .ensures .0) (c .refused .ensures .1) in
+    let t = refuses Calls.onlyOne (Calls.show (args .lent .now) (args .out .now)) _ _ e (c .refused .ensures .0) (c .refused .ensures .1) in
     (t .0, t .1, wrote .show .ensures .1 ∙ refused-show (read .read .result .word) (args .out .now) _ (ap writeSays (sym (wrote .show .ensures .0) ∙ found .refusal .given .1)) ∙ unchanged (Calls.show (args .lent .now) (args .out .now)) _ (args .out .now) _ _ e)))

@@ -20,7 +20,7 @@ fz-spell-spec =
     let wrote = found .before .before .before .before in
     let args = wrote .before .before .before .before .args in
     let e = spelled (args .mode) (args .text .now) (args .out .now) (wrote .spell .result) _ (wrote .spell .ensures .0) (found .keys .given .1) in
-    let t = tells Calls.single (Calls.spell (args .mode) (args .text .now) (args .out .now)) _ e (c .answered .ensures .0) (c .answered .ensures .1) in
+    let t = tells Calls.onlyOne (Calls.spell (args .mode) (args .text .now) (args .out .now)) _ e (c .answered .ensures .0) (c .answered .ensures .1) in
     (t .0, t .1, wrote .spell .ensures .1))
     (λ c. search needs)
     (λ c.
@@ -28,5 +28,5 @@ fz-spell-spec =
     let wrote = found .before .before .before .before in
     let args = wrote .before .before .before .before .args in
     let e = spelled (args .mode) (args .text .now) (args .out .now) (wrote .spell .result) _ (wrote .spell .ensures .0) (found .refusal .given .1) in
-    let t = refuses Calls.single (Calls.spell (args .mode) (args .text .now) (args .out .now)) _ _ e (c .refused .ensures .0) (c .refused .ensures .1) in
+    let t = refuses Calls.onlyOne (Calls.spell (args .mode) (args .text .now) (args .out .now)) _ _ e (c .refused .ensures .0) (c .refused .ensures .1) in
     (t .0, t .1, wrote .spell .ensures .1)))

@@ -34,7 +34,7 @@ fz-type-and-show-spec =
     let args = read .before .before .before .before .before .args in
     let said = Calls.typeAndShow (args .lent .now) (args .key) (args .out .now) in
     let e = none-typed-shown (args .lent .now) (read .read .result) (read .read .ensures) (args .key) (args .out .now) (not-true _ (no .if2 .taken)) in
-    let t = refuses Calls.single said 8 0 e (c .no-record .ensures .0) (c .no-record .ensures .1) in
+    let t = refuses Calls.onlyOne said 8 0 e (c .no-record .ensures .0) (c .no-record .ensures .1) in
     (t .0, no-outcome said 8 0 e, t .1, unchanged said _ (args .lent .now) 8 0 e, unchanged said _ (args .out .now) 8 0 e))
     (λ c κs. search needs)
     (λ c κs. search needs)
@@ -81,7 +81,7 @@ fz-type-and-show-spec =
     let said = Calls.typeAndShow (args .lent .now) (args .key) (args .out .now) in
     let all = stepAndShow w (args .key) (args .out .now) .result in
     let e = typed-shown (args .lent .now) (read .read .result) (read .read .ensures) (args .key) (args .out .now) all refl (not-false _ (yes .if2 .left)) _ (sym (ap (λ (x : StepShown). x .answer) (both .0))) in
-    let t = tells Calls.single said _ e (c .answered .ensures .0) (c .answered .ensures .1) in (
+    let t = tells Calls.onlyOne said _ e (c .answered .ensures .0) (c .answered .ensures .1) in (
       t .0,
       numbered .outcome-number .ensures ∙ outcome-told said _ _ e,
       t .1,
@@ -103,5 +103,5 @@ fz-type-and-show-spec =
     let said = Calls.typeAndShow (args .lent .now) (args .key) (args .out .now) in
     let all = stepAndShow w (args .key) (args .out .now) .result in
     let e = typed-shown (args .lent .now) (read .read .result) (read .read .ensures) (args .key) (args .out .now) all refl (not-false _ (yes .if2 .left)) _ (sym (ap (λ (x : StepShown). x .answer) (no .0))) in
-    let t = refuses Calls.single said _ _ e (c .refused .ensures .0) (c .refused .ensures .1) in
+    let t = refuses Calls.onlyOne said _ _ e (c .refused .ensures .0) (c .refused .ensures .1) in
     (t .0, no-outcome said _ _ e, t .1, unchanged said _ (args .lent .now) _ _ e, unchanged said _ (args .out .now) _ _ e)))

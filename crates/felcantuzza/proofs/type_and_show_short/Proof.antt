@@ -21,7 +21,7 @@ type-and-show-short-spec =
     let args = read .before .before .before .before .args in
     let said = Calls.typeAndShow (args .lent .now) (args .key) (args .out .now) in
     let e = none-typed-shown (args .lent .now) (read .read .result) (read .read .ensures) (args .key) (args .out .now) (not-true _ (no .if1 .taken)) in
-    let t = refuses Calls.single said 8 0 e (c .no-record .ensures .0) (c .no-record .ensures .1) in
+    let t = refuses Calls.onlyOne said 8 0 e (c .no-record .ensures .0) (c .no-record .ensures .1) in
     (t .0, no-outcome said 8 0 e, t .1, unchanged said _ (args .lent .now) 8 0 e, unchanged said _ (args .out .now) 8 0 e))
     (λ c κs. search needs)
     (λ c. search needs)
@@ -42,7 +42,7 @@ type-and-show-short-spec =
     let args = read .before .before .before .before .args in
     let said = Calls.typeAndShow (args .lent .now) (args .key) (args .out .now) in
     let e = typed-shown (args .lent .now) (read .read .result) (read .read .ensures) (args .key) (args .out .now) (both .press .result) (both .press .ensures .0) (not-false _ (yes .if1 .left)) _ (known .answer .given .1) in
-    let t = tells Calls.single said _ e (c .answered .ensures .0) (c .answered .ensures .1) in (
+    let t = tells Calls.onlyOne said _ e (c .answered .ensures .0) (c .answered .ensures .1) in (
       t .0,
       numbered .outcome-number .ensures ∙ outcome-told said _ _ e,
       t .1,
@@ -59,7 +59,7 @@ type-and-show-short-spec =
     let args = read .before .before .before .before .args in
     let said = Calls.typeAndShow (args .lent .now) (args .key) (args .out .now) in
     let e = typed-shown (args .lent .now) (read .read .result) (read .read .ensures) (args .key) (args .out .now) (both .press .result) (both .press .ensures .0) (not-false _ (yes .if1 .left)) _ (known .answer2 .given .1) in
-    let t = refuses Calls.single said _ _ e (c .refused .ensures .0) (c .refused .ensures .1) in
+    let t = refuses Calls.onlyOne said _ _ e (c .refused .ensures .0) (c .refused .ensures .1) in
     let no = sym (ap (λ (x : StepShown). x .answer) (both .press .ensures .0)) ∙ known .answer2 .given .1 in (
       t .0,
       no-outcome said _ _ e,

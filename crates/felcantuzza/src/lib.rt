@@ -3,6 +3,7 @@
 // A word's record is lent as the 104 bytes of crate `layout`; bytes that are no record are refusal 8 with 0. A refused call leaves every lent byte as it was.
 use commit::Ruling;
 use press::ShownAnswer;
+use records::Numbers;
 use rules::Act;
 use rules::Decision;
 use rules::DecisionAnswer;
@@ -17,6 +18,8 @@ use rules::Word;
 use rules::WriteAnswer;
 ghost use mathlib.Core.Path.{_≡_};
 ghost use Rattle.rules.specs.AnswersInNumbers.{outcomeNumbers, placeNumbers, decisionNumber};
+ghost use Rattle.records.specs.Numbers.{wordIn};
+ghost use Rattle.layout.specs.Places.{recordWritten};
 ghost use Rattle.felcantuzza.specs.Calls as Calls;
 
 fn answered(number: usize, value: &mut usize) -> u8
@@ -154,8 +157,28 @@ fn type_and_show_short(
     }
 }
 
+// The record of a mode, letters, keys and numbers, into a word's bytes.
+fn store(mode: u8, letters: [u16; 32], keys: [u8; 32], n: Numbers, lent: &mut [u8])
+    ensures { λ _. ⌜ now (lent .exit) ≡ recordWritten (wordIn mode letters keys n) (now (lent .entry)) ⌝ }
+{
+    let w = Word {
+        mode: mode,
+        letters: letters,
+        count: n.count,
+        tone: n.tone,
+        closed: n.closed,
+        keys: keys,
+        typed: n.typed,
+        acted: n.acted,
+        undone: n.undone,
+        appended: n.appended,
+    };
+    layout::write(w, lent);
+}
+
 // A key typed and the word shown, with one range check; `did` is what the key did, as fz_type's value, and 0 where the call is refused;
-// the value is the bytes written. Refusals: 8, 2, 3, 4.
+// the value is the bytes written. Refusals: 8, 2, 3, 4. The letters are shown from where the step left them: of a record that is handed back
+// by value they would be copied once more.
 #[no_mangle]
 pub extern "C" fn fz_type_and_show(
     lent: &mut [u8],
@@ -182,19 +205,7 @@ pub extern "C" fn fz_type_and_show(
     match answer {
         StepAnswer::Did(outcome) => {
             let n = done.numbers;
-            let typed = Word {
-                mode: w.mode,
-                letters: letters,
-                count: n.count,
-                tone: n.tone,
-                closed: n.closed,
-                keys: keys,
-                typed: n.typed,
-                acted: n.acted,
-                undone: n.undone,
-                appended: n.appended,
-            };
-            layout::write(typed, lent);
+            store(w.mode, letters, keys, n, lent);
             *did = outcome_number(outcome);
             let count = n.count as usize;
             answered(show::in_room(&letters[0..count], n.tone, out), value)

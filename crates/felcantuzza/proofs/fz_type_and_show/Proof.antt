@@ -85,7 +85,8 @@ fz-type-and-show-spec =
       t .0,
       numbered .outcome-number .ensures ∙ outcome-told said _ _ e,
       t .1,
-      stored .write .ensures .1 ∙ ap (λ (x : StepShown). recordWritten (x .word) (args .lent .now)) (both .0) ∙ typed-shown-word (args .lent .now) (read .read .result) (read .read .ensures) (args .key) (args .out .now) all refl ∙ changed said _ (args .lent .now) _ e,
+      _∙_ {b = recordWritten (s .word) (args .lent .now)} (stored .store .ensures)
+          (ap (λ (x : StepShown). recordWritten (x .word) (args .lent .now)) (both .0) ∙ typed-shown-word (args .lent .now) (read .read .result) (read .read .ensures) (args .key) (args .out .now) all refl ∙ changed said _ (args .lent .now) _ e),
       both .1 ∙ typed-shown-output (args .lent .now) (read .read .result) (read .read .ensures) (args .key) (args .out .now) ∙ changed said _ (args .out .now) _ e,
     ))
     (λ c. search needs)

@@ -38,8 +38,8 @@ use Rattle.rules.proofs.Tests.{is-false}
 use Rattle.rules.proofs.Refused.{refusal-none}
 use Rattle.rules.proofs.StaysInRange.{read-front}
 use Rattle.rules.proofs.Records.{word-held}
-use Rattle.rules.proofs.Typing.{Held, new-held, list-held}
-use Rattle.rules.proofs.Range.{not-not}
+use Rattle.rules.proofs.Typing.{Held, new-held, kept-keys, list-held}
+use Rattle.rules.proofs.Range.{not-not, in-range}
 use Rattle.rules.proofs.TextFits.{text-fits}
 
 -- a word in range
@@ -136,3 +136,10 @@ module _ (m : ℕ) (ks : List ℕ) where
 
     pub typed-word : wordOf (typeAll m ks .word) ≡ typed m ks
     typed-word = ap wordOf typed-as ∙ word-held (newWord m) (typed m ks) (held .fine .letters)
+
+    -- of which there are at most 32, and no more letters than keys
+    pub few-keys : length ks ≤ mostKeys
+    few-keys = omega (arith, in-range (holding (newWord m) (typed m ks)) (held .range) .typed, kept-keys (wordOf (newWord m)) ks)
+
+    pub fewer-letters : length (typed m ks .state .letters) ≤ length ks
+    fewer-letters = omega (arith, in-range (holding (newWord m) (typed m ks)) (held .range) .fewer, kept-keys (wordOf (newWord m)) ks)

@@ -1,4 +1,4 @@
--- The text of any record in range fits 96 bytes.
+-- A text has at most three bytes a letter, and that of any record in range fits 96 bytes.
 use mathlib.Core.Path.{_≡_, refl, ap}
 use mathlib.Core.Bool.{Bool, true, false}
 use mathlib.Core.List.{List, [], _∷_}
@@ -46,10 +46,13 @@ each-shown : (p : Place) (t : ℕ) (w : Letters) → length (signsAt p t w) ≡ 
 each-shown (At n) t w = toned n t w
 each-shown Nowhere t w = toneless w
 
-pub few-bytes : (s : State) → length (s .letters) ≤ mostKeys → length (shown s) ≤ mostBytes
-few-bytes s h =
+pub three-a-letter : (s : State) → length (shown s) ≤ 3 * length (s .letters)
+three-a-letter s =
     let p = tonePlace (s .letters) (s .tone) in
     omega (arith, three-each (signsAt p (s .tone) (s .letters)), each-shown p (s .tone) (s .letters))
+
+pub few-bytes : (s : State) → length (s .letters) ≤ mostKeys → length (shown s) ≤ mostBytes
+few-bytes s h = omega (arith, three-a-letter s)
 
 pub text-fits : (w : Word) → outOfRange w ≡ false → length (shown (wordOf w .state)) ≤ mostBytes
 text-fits w e =

@@ -10,7 +10,6 @@ use borrow.Author.Tests.{lt-ltb, le-ltb}
 use lib.Dec.{ltb, lit≤}
 use lib.ListN.{length, take, drop, set, length-append, length-take, length-drop, length-set}
 use lib.Seq.{take-length, take-all, take-at, take-suc-set, length-take-le}
-use Rattle.rules.specs.TheWord.{mostKeys, mostBytes}
 use Rattle.rules.specs.Decision.{handedBack}
 use Rattle.rules.specs.Drill.{newline, decimal, orHyphen, placeColumn, columns}
 use Rattle.rules.specs.declared.Place.{Place}
@@ -106,7 +105,7 @@ pub place-long : (p : Place) (end : ℕ) → length (placeColumn p ++ (end ∷ [
 place-long (At n) end = decimal-long n end
 place-long Nowhere end = lit≤ tt
 
-pub handed-long : (d : Decision) (shown keys : List ℕ) (end : ℕ) → length shown ≤ mostBytes → length keys ≤ mostKeys → length (orHyphen (handedBack d shown keys) ++ (end ∷ [])) ≤ mostBytes + 2
+pub handed-long : (d : Decision) (shown keys : List ℕ) (end : ℕ) {n : ℕ} → length shown ≤ n → length keys ≤ n → length (orHyphen (handedBack d shown keys) ++ (end ∷ [])) ≤ n + 2
 handed-long Keep shown keys end s k = omega (arith, hyphen-long shown end)
 handed-long Restore shown keys end s k = omega (arith, hyphen-long keys end)
 

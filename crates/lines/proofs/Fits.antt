@@ -1,46 +1,44 @@
--- An answer line has at most 256 bytes, in either program.
+-- An answer line has at most 256 bytes, in either program, and at most 6 for each byte of its line and for the newline behind it.
 use mathlib.Core.Path.{_≡_, refl, sym, ap, subst}
-use mathlib.Core.Bool.{false}
 use mathlib.Core.List.{List, [], _∷_, _++_}
 use mathlib.Core.Option.{Option, none, some}
-use Prim.Native.Nat.{ℕ, _≤_}
+use Prim.Native.Nat.{ℕ, _+_, _*_, _≤_, min}
 use Prim.Native.Char.{code}
 use native.Mathlib.Omega.{arith}
 use lib.Dec.{lit≤}
-use lib.ListN.{length, drop, length-append, length-take}
+use lib.ListN.{length, drop, length-append}
 use Rattle.rules.specs.TakingApart.{verdict}
 use Rattle.rules.specs.TonePlace.{tonePlace}
-use Rattle.rules.specs.TheWord.{wordOf}
+use Rattle.rules.specs.TheWord.{Typed, newWord, wordOf}
 use Rattle.rules.specs.CodePoints.{shown}
 use Rattle.rules.specs.Decision.{decision, handedBack}
-use Rattle.rules.specs.Refusals.{outOfRange, refusal}
-use Rattle.rules.specs.WhatComesBack.{typeCall, typeOr, typeAll}
-use Rattle.rules.specs.Drill.{decimal, orHyphen, placeColumn, decisionColumn, columns, wordLine, refusedLine, lineOr, keysLine, modeOf}
-use Rattle.rules.specs.SpellProgram.{textCall, spelledOr, spelledLine}
-use Rattle.rules.specs.declared.Word.{Word}
+use Rattle.rules.specs.Refusals.{refusal}
+use Rattle.rules.specs.WhatComesBack.{typed, typeCall, typeOr, typeAll}
+use Rattle.rules.specs.Drill.{decimal, orHyphen, placeColumn, decisionColumn, columns, wordLine, refusedLine, lineOr, keysLine, modeOf, answerLine}
+use Rattle.rules.specs.SpellProgram.{textCall, spelledOr, spelledLine, spellLine}
 use Rattle.rules.specs.declared.Refusal.{Refusal}
 use Rattle.rules.specs.declared.Decision.{Decision}
 use Rattle.rules.specs.declared.Decision.the-variants.{Keep, Restore}
 use Rattle.rules.specs.declared.TypeAnswer.the-variants.{AllTyped}
-use Rattle.rules.proofs.TextFits.{text-fits}
-use Rattle.rules.proofs.NotRefused.{typed-in-range}
+use Rattle.rules.proofs.TextFits.{three-a-letter}
+use Rattle.rules.proofs.Typing.{kept-keys}
+use Rattle.rules.proofs.NotRefused.{few-keys, fewer-letters}
 use Rattle.lines.specs.Appending.{mostInLine}
 use Rattle.lines.specs.Programs.{answerOf}
 use Rattle.lines.specs.declared.Program.{Program}
 use Rattle.lines.specs.declared.Program.the-variants.{Drill, Spell}
 use Rattle.lines.proofs.Columns.{hyphen-long, handed-long, decimal-long, place-long}
-use Rattle.lines.proofs.Words.{few-typed, typed-keys}
-use Rattle.lines.proofs.Spelled.{few-spelled}
+use Rattle.lines.proofs.Spelled.{keys-few, few-spelled}
 use Rattle.lines.proofs.Starts.{restOf, by-rest}
 
 -- columns that are short together make a short line
-module _ (a b c : List ℕ) (x y z : ℕ) where
-  three-long : length (a ++ (x ∷ [])) ≤ 3 → length (b ++ (y ∷ [])) ≤ 3 → length (c ++ (z ∷ [])) ≤ 3 → length (columns (a ∷ b ∷ c ∷ [])) ≤ mostInLine
-  three-long p q r = simp length-append (omega (arith, length-append a (x ∷ []), length-append b (y ∷ []), length-append c (z ∷ [])))
+module _ (a b c : List ℕ) (x : ℕ) where
+  three-long : length (a ++ (x ∷ [])) ≤ 3 → length (b ++ (x ∷ [])) ≤ 3 → length (c ++ (x ∷ [])) ≤ 3 → length (columns (a ∷ b ∷ c ∷ [])) ≤ 9
+  three-long p q r = simp length-append (omega (arith, length-append a (x ∷ []), length-append b (x ∷ []), length-append c (x ∷ [])))
 
-  six-long : (d e f : List ℕ) → length (a ++ (x ∷ [])) ≤ 98 → length (b ++ (x ∷ [])) ≤ 98 → length (c ++ (x ∷ [])) ≤ 3 → length (d ++ (x ∷ [])) ≤ 3 → length (e ++ (x ∷ [])) ≤ 3 → length f ≤ 1
-      → length (columns (a ∷ b ∷ c ∷ d ∷ e ∷ f ∷ [])) ≤ mostInLine
-  six-long d e f p q r s t u =
+  six-long : (d e f : List ℕ) (n : ℕ) → length (a ++ (x ∷ [])) ≤ n + 2 → length (b ++ (x ∷ [])) ≤ n + 2 → length (c ++ (x ∷ [])) ≤ 3 → length (d ++ (x ∷ [])) ≤ 3 → length (e ++ (x ∷ [])) ≤ 3 → length f ≤ 1
+      → length (columns (a ∷ b ∷ c ∷ d ∷ e ∷ f ∷ [])) ≤ 2 * n + 15
+  six-long d e f n p q r s t u =
       simp length-append
       (omega (arith, length-append a (x ∷ []), length-append b (x ∷ []), length-append c (x ∷ []), length-append d (x ∷ []), length-append e (x ∷ [])))
 
@@ -48,41 +46,62 @@ letter-long : (d : Decision) → length (decisionColumn d) ≤ 1
 letter-long Keep = lit≤ tt
 letter-long Restore = lit≤ tt
 
-word-fits : (w : Word) → outOfRange w ≡ false → length (wordLine (wordOf w)) ≤ mostInLine
-word-fits w e =
-    let text = shown (wordOf w .state) in
-    let keys = wordOf w .keys in
-    let d = decision (wordOf w) in
-    let v = verdict (wordOf w .state .letters) (w .tone) in
-    let p = tonePlace (wordOf w .state .letters) (w .tone) in
-    let short = text-fits w e in
-    let few : length keys ≤ 32 = simp length-take (omega (arith, few-typed w e)) in
-    six-long (orHyphen text) (orHyphen (handedBack d text keys)) (decimal v) 32 32 32 (decimal (w .tone)) (placeColumn p) (decisionColumn d) (omega (arith, hyphen-long text 32))
-    (handed-long d text keys 32 short few) (decimal-long v 32) (decimal-long (w .tone) 32) (place-long p 32) (letter-long d)
+-- a word's: three bytes a key for what is shown, and for what is handed back
+word-long : (z : Typed) (k : ℕ) → length (z .state .letters) ≤ k → length (z .keys) ≤ k → length (wordLine z) ≤ 2 * (3 * k) + 15
+word-long z k l h =
+    let text = shown (z .state) in
+    let d = decision z in
+    let v = verdict (z .state .letters) (z .state .tone) in
+    let p = tonePlace (z .state .letters) (z .state .tone) in
+    let short : length text ≤ 3 * k = omega (arith, three-a-letter (z .state)) in
+    six-long (orHyphen text) (orHyphen (handedBack d text (z .keys))) (decimal v) 32 (decimal (z .state .tone)) (placeColumn p) (decisionColumn d) (3 * k) (omega (arith, hyphen-long text 32))
+    (handed-long d text (z .keys) 32 short (omega arith)) (decimal-long v 32) (decimal-long (z .state .tone) 32) (place-long p 32) (letter-long d)
 
-refused-fits : (x : Refusal) → length (refusedLine x) ≤ mostInLine
-refused-fits x = three-long (code "!" ∷ []) (decimal (x .number)) (decimal (x .value)) 32 32 32 (lit≤ tt) (decimal-long (x .number) 32) (decimal-long (x .value) 32)
+-- what stands behind a line's start has so many bytes
+module _ (n : ℕ) where
+  abbrev most : ℕ
+  most = min mostInLine (6 * n + 15)
 
-keys-fit : (m : ℕ) (ks : List ℕ) → length (keysLine m ks) ≤ mostInLine
+  refused-fits : (x : Refusal) → length (refusedLine x) ≤ most
+  refused-fits x =
+      omega (arith, three-long (code "!" ∷ []) (decimal (x .number)) (decimal (x .value)) 32 (lit≤ tt) (decimal-long (x .number) 32) (decimal-long (x .value) 32))
+
+keys-fit : (m : ℕ) (ks : List ℕ) → length (keysLine m ks) ≤ most (length ks)
 unfolding typeAll
 keys-fit m ks = go (refusal (typeCall m ks)) refl
   where
-    go : (o : Option Refusal) → refusal (typeCall m ks) ≡ o → length (keysLine m ks) ≤ mostInLine
-    go (some x) e = subst (λ (o : Option Refusal). length (lineOr o m ks) ≤ mostInLine) (sym e) (refused-fits x)
+    go : (o : Option Refusal) → refusal (typeCall m ks) ≡ o → length (keysLine m ks) ≤ most (length ks)
+    go (some x) e = subst (λ (o : Option Refusal). length (lineOr o m ks) ≤ most (length ks)) (sym e) (refused-fits (length ks) x)
     go none e =
-        let typed : typeAll m ks .answer ≡ AllTyped = ap (λ (o : Option Refusal). typeOr o m ks .answer) e in
-        subst (λ (l : List ℕ). length l ≤ mostInLine) (typed-keys m ks typed) (word-fits (typeAll m ks .word) (typed-in-range m ks typed))
+        let a : typeAll m ks .answer ≡ AllTyped = ap (λ (o : Option Refusal). typeOr o m ks .answer) e in
+        let all : length (typed m ks .keys) ≤ length ks = omega (arith, kept-keys (wordOf (newWord m)) ks) in
+        subst (λ (o : Option Refusal). length (lineOr o m ks) ≤ most (length ks)) (sym e)
+        (omega (arith, few-keys m ks a, word-long (typed m ks) (length ks) (fewer-letters m ks a) all))
 
-spelled-fits : (m : ℕ) (text : List ℕ) → length (spelledLine m text) ≤ mostInLine
+spelled-fits : (m : ℕ) (text : List ℕ) → length (spelledLine m text) ≤ most (length text)
 spelled-fits m text = go (refusal (textCall m text)) refl
   where
-    go : (o : Option Refusal) → refusal (textCall m text) ≡ o → length (spelledLine m text) ≤ mostInLine
-    go (some x) e = subst (λ (o : Option Refusal). length (spelledOr o m text) ≤ mostInLine) (sym e) (refused-fits x)
-    go none e = subst (λ (o : Option Refusal). length (spelledOr o m text) ≤ mostInLine) (sym e) (simp length-append (omega (arith, few-spelled m text e)))
+    go : (o : Option Refusal) → refusal (textCall m text) ≡ o → length (spelledLine m text) ≤ most (length text)
+    go (some x) e = subst (λ (o : Option Refusal). length (spelledOr o m text) ≤ most (length text)) (sym e) (refused-fits (length text) x)
+    go none e =
+        subst (λ (o : Option Refusal). length (spelledOr o m text) ≤ most (length text)) (sym e)
+        (simp length-append (omega (arith, keys-few m text, few-spelled m text e)))
 
-rest-fits : (p : Program) (m : ℕ) (rest : List ℕ) → length (restOf p m rest) ≤ mostInLine
+rest-fits : (p : Program) (m : ℕ) (rest : List ℕ) → length (restOf p m rest) ≤ most (length rest)
 rest-fits Drill m rest = keys-fit m rest
 rest-fits Spell m rest = spelled-fits m rest
 
+line-fits : (p : Program) (line : List ℕ) → length (answerOf p line) ≤ most (length (drop 2 line))
+line-fits p line = subst (λ (l : List ℕ). length l ≤ most (length (drop 2 line))) (by-rest p line) (rest-fits p (modeOf line) (drop 2 line))
+
 pub answer-fits : (p : Program) (line : List ℕ) → length (answerOf p line) ≤ mostInLine
-answer-fits p line = subst (λ (l : List ℕ). length l ≤ mostInLine) (by-rest p line) (rest-fits p (modeOf line) (drop 2 line))
+answer-fits p line = omega (arith, line-fits p line)
+
+-- a line too short for a start names no mode, so that its answer is known
+pub answer-by-the-byte : (p : Program) (line : List ℕ) → length (answerOf p line) ≤ 6 * (length line + 1)
+unfolding answerLine spellLine refusal
+answer-by-the-byte Drill [] = lit≤ tt
+answer-by-the-byte Spell [] = lit≤ tt
+answer-by-the-byte Drill (b ∷ []) = lit≤ tt
+answer-by-the-byte Spell (b ∷ []) = lit≤ tt
+answer-by-the-byte p (b ∷ c ∷ rest) = omega (arith, line-fits p (b ∷ c ∷ rest))

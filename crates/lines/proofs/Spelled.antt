@@ -1,4 +1,4 @@
--- What the speller answers with room for a line: never refusal 4, a refusal whose numbers fit their columns, or at most 193 keys.
+-- What the speller answers with room for a line: never refusal 4, a refusal whose numbers fit their columns, or at most 193 keys, two a byte of the text and one.
 use mathlib.Core.Path.{_≡_, refl, sym, ap, subst, _∙_}
 use mathlib.Core.Bool.{Bool, true, false, not, _&&_, _||_}
 use mathlib.Core.List.{List, [], _∷_, _++_}
@@ -80,12 +80,12 @@ few-keys m (s ∷ ss) =
     simp (length-append (keysAfter m (s .letter) w) (letterKeys m w))
     (omega (arith, few-keys m ss, few-unless (shapeKey m (s .letter)) (eqb (s .letter .shape) plain || awaitsO (s .letter) w)))
 
-pub keys-few : (m : ℕ) (text : List ℕ) → length text ≤ mostBytes → length (keysOf m (read text)) ≤ 193
+pub keys-few : (m : ℕ) (text : List ℕ) → length (keysOf m (read text)) ≤ 2 * length text + 1
 unfolding read standardKeys
-keys-few m text h = go (readFrom 0 0 text) (few-from 0 0 text)
+keys-few m text = go (readFrom 0 0 text) (few-from 0 0 text)
   where
-    go : (r : Reading) → many r ≤ length text → length (keysOf m r) ≤ 193
-    go (stuckAt n) k = lit≤ tt
+    go : (r : Reading) → many r ≤ length text → length (keysOf m r) ≤ 2 * length text + 1
+    go (stuckAt n) k = omega arith
     go (reading ss) k =
         simp (length-append (letterKeys m (lettersIn ss)) (toneKeys m (toneIn ss)))
         (omega (arith, few-keys m ss, few-unless (toneKey m (toneIn ss)) (eqb (toneIn ss) noTone)))
@@ -139,7 +139,7 @@ module _ (m : ℕ) (text : List ℕ) where
           last false d = let z : _≡_ {A = ℕ} 0 1 = cc in absurd (omega arith)
 
   few-where-none : NoneHolds (table (textCall m text)) → length (keysOf m (read text)) ≤ 193
-  few-where-none (not-this range (not-this mode (not-this keys (not-this long more)))) = keys-few m text (nltb→le mostBytes (length text) long)
+  few-where-none (not-this range (not-this mode (not-this keys (not-this long more)))) = omega (arith, keys-few m text, nltb→le mostBytes (length text) long)
 
   pub few-spelled : refusal (textCall m text) ≡ none → length (keysOf m (read text)) ≤ 193
   few-spelled e = few-where-none (refusal-none (textCall m text) .0 e)
@@ -152,7 +152,7 @@ module _ (m : ℕ) (text : List ℕ) where
 
     room-enough : length text ≤ mostBytes → refusal (spellCall m text out) ≡ refusal (textCall m text)
     unfolding refusal
-    room-enough h = simp (le-ltb (length out) (length (keysOf m (read text))) (omega (arith, keys-few m text h)))
+    room-enough h = simp (le-ltb (length out) (length (keysOf m (read text))) (omega (arith, keys-few m text)))
 
     same-refusal : refusal (spellCall m text out) ≡ refusal (textCall m text)
     same-refusal = go (ltb mostBytes (length text)) refl

@@ -27,7 +27,7 @@ six-columns-spec =
     let at = a .before .before .before .before .before in
     let args = at .args in
     let l = hyphen-long (args .shown .now) 32 in
-    let m = handed-long (args .decision) (args .shown .now) (args .keys .now) 32 (at .pre .1) (at .pre .2) in
+    let m = handed-long (args .decision) (args .shown .now) (args .keys .now) 32 (at .pre .1) (omega (arith, at .pre .2)) in
     omega arith)
     (λ c κs.
     let v = c .before .before .before in
@@ -36,7 +36,7 @@ six-columns-spec =
     let at = a .before .before .before .before .before in
     let args = at .args in
     let l = hyphen-long (args .shown .now) 32 in
-    let m = handed-long (args .decision) (args .shown .now) (args .keys .now) 32 (at .pre .1) (at .pre .2) in
+    let m = handed-long (args .decision) (args .shown .now) (args .keys .now) 32 (at .pre .1) (omega (arith, at .pre .2)) in
     let n = decimal-long (args .verdict) 32 in
     omega arith)
     (λ c κs.
@@ -47,7 +47,7 @@ six-columns-spec =
     let at = a .before .before .before .before .before in
     let args = at .args in
     let l = hyphen-long (args .shown .now) 32 in
-    let m = handed-long (args .decision) (args .shown .now) (args .keys .now) 32 (at .pre .1) (at .pre .2) in
+    let m = handed-long (args .decision) (args .shown .now) (args .keys .now) 32 (at .pre .1) (omega (arith, at .pre .2)) in
     let n = decimal-long (args .verdict) 32 in
     let o = decimal-long (args .tone) 32 in
     (omega arith, at .pre .3))
@@ -61,7 +61,7 @@ six-columns-spec =
     let at = a .before .before .before .before .before in
     let args = at .args in
     let l = hyphen-long (args .shown .now) 32 in
-    let m = handed-long (args .decision) (args .shown .now) (args .keys .now) 32 (at .pre .1) (at .pre .2) in
+    let m = handed-long (args .decision) (args .shown .now) (args .keys .now) 32 (at .pre .1) (omega (arith, at .pre .2)) in
     let n = decimal-long (args .verdict) 32 in
     let o = decimal-long (args .tone) 32 in
     let p = place-long (args .place) 32 in

@@ -1,14 +1,23 @@
 // A program of lines: each line of standard input answered on standard output, behind the program's header.
 // Reads, feeds and writes; a failed read or write ends the run, with what was answered so far written out and a message on standard error.
-ghost use Prim.Native.Nat.{_≤_};
+ghost use mathlib.Core.Path.{_≡_};
+ghost use Prim.Native.Nat.{_+_, _*_, _≤_};
 ghost use lib.ListN.{length};
+ghost use Rattle.rules.specs.TheWord.{atFront};
 ghost use Rattle.lines.specs.Appending.{mostInLine};
+ghost use Rattle.stream.specs.Feeding.{feeding, fedOf};
 use libc::STDERR_FILENO;
 use libc::STDIN_FILENO;
 use libc::STDOUT_FILENO;
 use lines::Program;
 use rules::WriteAnswer;
 use stream::Begun;
+use stream::Fed;
+
+// A block, and an output with room for all its answers: six bytes for each of its bytes, and an answer to the line that had begun before it.
+const BLOCK: usize = 16384;
+
+const OUTPUT: usize = 256 + 6 * BLOCK;
 
 // What follows a read: more of the input, its end, or a failure.
 enum Next {
@@ -42,34 +51,33 @@ fn written(program: Program, text: &[u8]) -> bool {
     all
 }
 
-// The answers to a block, an output full at a time.
+// A block fed whole: an output as long as this has room for all its answers, so nothing of it is left.
+fn feed(state: Begun, block: &[u8], out: &mut [u8]) -> Fed
+    requires { ⌜ mostInLine + 6 * length (now block) ≤ length (now out) ⌝ }
+    ensures { λ r. ⌜ (r ≡ fedOf 0 (feeding state (now (block .entry)) (length (now (out .entry))))) × (now (out .exit) ≡ atFront (feeding state (now (block .entry)) (length (now (out .entry))) .text) (now (out .entry))) × (r .taken ≡ length (now (block .entry))) ⌝ }
+{
+    stream::feed(state, block, 0, out)
+}
+
+// The answers to a block, and the state after all of it.
 fn answer(state: Begun, block: &[u8], out: &mut [u8]) -> Passed
-    requires { ⌜ mostInLine ≤ length (now out) ⌝ }
+    requires { ⌜ mostInLine + 6 * length (now block) ≤ length (now out) ⌝ }
+    ensures { λ r. ⌜ r .state ≡ feeding state (now (block .entry)) (length (now (out .entry))) .state ⌝ }
 {
     let program = state.program;
-    let mut s = state;
-    let mut from = 0;
-    while from < block.len() {
-        let fed = stream::feed(s, block, from, out);
-        let n = fed.written;
-        if !written(program, &out[0..n]) {
-            return Passed {
-                state: s,
-                next: Next::Failed,
-            };
-        }
-        s = fed.state;
-        from = fed.taken;
-    }
+    let fed = feed(state, block, out);
+    let after = fed.state;
+    let n = fed.written;
+    let next = if written(program, &out[0..n]) { Next::More } else { Next::Failed };
     Passed {
-        state: s,
-        next: Next::More,
+        state: after,
+        next: next,
     }
 }
 
 // One read, and the answers to what came.
 fn pass(state: Begun, block: &mut [u8], out: &mut [u8]) -> Passed
-    requires { ⌜ mostInLine ≤ length (now out) ⌝ }
+    requires { ⌜ mostInLine + 6 * length (now block) ≤ length (now out) ⌝ }
 {
     let got = libc::read(STDIN_FILENO, block);
     if got < 0 {
@@ -101,7 +109,7 @@ fn end(state: Begun, out: &mut [u8]) {
 
 // Nothing says that the input ends, so the loop counts its turns down, from a number that no run uses up.
 fn passes(program: Program, block: &mut [u8], out: &mut [u8])
-    requires { ⌜ mostInLine ≤ length (now out) ⌝ }
+    requires { ⌜ mostInLine + 6 * length (now block) ≤ length (now out) ⌝ }
 {
     let mut state = Begun::new(program);
     let mut turns = u64::MAX;
@@ -122,8 +130,8 @@ fn passes(program: Program, block: &mut [u8], out: &mut [u8])
 
 // The whole run of a program. No contract can say what is read and written.
 pub fn run(program: Program) {
-    let mut block = io::large_buffer();
-    let mut out = io::large_buffer();
+    let mut block = [0; BLOCK];
+    let mut out = [0; OUTPUT];
     let WriteAnswer::Wrote(n) = stream::header(program, &mut out) else {
         return;
     };

@@ -26,9 +26,9 @@ kept-owed s b = go (ltb (s .length) mostKept)
     go false = omega arith
 
 -- one byte, with room for what is owed and 6 bytes more: it is taken, and what it writes and what is owed then are no more than that
-pub record Paid (s : Begun) (f : ByteFed) : Type 0 where
-  pub taken : f .stuck ≡ false
-  pub enough : length (f .text) + owed (f .state) ≤ owed s + 6
+record Paid (s : Begun) (f : ByteFed) : Type 0 where
+  taken : f .stuck ≡ false
+  enough : length (f .text) + owed (f .state) ≤ owed s + 6
 
 paid : (s : Begun) (b room : ℕ) → owed s + 6 ≤ room → Paid s (byteFed s b room)
 unfolding byteFed

@@ -68,7 +68,11 @@ fn answer(state: Begun, block: &[u8], out: &mut [u8]) -> Passed
     let fed = feed(state, block, out);
     let after = fed.state;
     let n = fed.written;
-    let next = if written(program, &out[0..n]) { Next::More } else { Next::Failed };
+    let next = if written(program, &out[0..n]) {
+        Next::More
+    } else {
+        Next::Failed
+    };
     Passed {
         state: after,
         next: next,

@@ -158,7 +158,7 @@ fn type_and_show_short(
 }
 
 // The record of a mode, letters, keys and numbers, into a word's bytes.
-fn store(mode: u8, letters: [u16; 32], keys: [u8; 32], n: Numbers, lent: &mut [u8])
+fn store(mode: u8, letters: [u16; Word::KEYS], keys: [u8; Word::KEYS], n: Numbers, lent: &mut [u8])
     ensures { λ _. ⌜ now (lent .exit) ≡ recordWritten (wordIn mode letters keys n) (now (lent .entry)) ⌝ }
 {
     let w = Word {

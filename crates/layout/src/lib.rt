@@ -31,13 +31,13 @@ fn number(low: u8, high: u8) -> u16
 }
 
 // The letters' numbers, two bytes each.
-fn letters_in(pairs: &[u8]) -> [u16; 32]
+fn letters_in(pairs: &[u8]) -> [u16; Word::KEYS]
     requires { ⌜ length (now pairs) ≡ 64 ⌝ }
     ensures { λ r. ⌜ r ≡ numbers (now (pairs .entry)) ⌝ }
 {
-    let mut letters = [0; 32];
+    let mut letters = [0; Word::KEYS];
     let mut i = 0;
-    while i < 32 {
+    while i < Word::KEYS {
         letters[i] = number(pairs[2 * i], pairs[2 * i + 1]);
         i += 1;
     }
@@ -62,7 +62,7 @@ fn put_letters(letters: &[u16], out: &mut [u8])
     ensures { λ _. ⌜ now (out .exit) ≡ pairs (now (letters .entry)) ⌝ }
 {
     let mut i = 0;
-    while i < 32 {
+    while i < Word::KEYS {
         out[2 * i] = low(letters[i]);
         out[2 * i + 1] = high(letters[i]);
         i += 1;
@@ -80,7 +80,7 @@ pub fn read(buffer: &[u8]) -> RecordRead
     if 1 < mark {
         return no_record();
     }
-    let mut keys = [0; 32];
+    let mut keys = [0; Word::KEYS];
     bytes::copy(&buffer[8..40], &mut keys);
     let letters = letters_in(&buffer[40..LENGTH]);
     RecordRead {

@@ -254,8 +254,8 @@ fn refused(n: Numbers, number: u8, value: usize) -> StepIn
 // One key, typed into a word whose letters and keys are lent and changed where they lie: a record that is handed on by value is copied each time.
 // Refusals: 8, 2, 3; the word is then as it was.
 pub fn step_in(
-    letters: &mut [u16; 32],
-    keys: &mut [u8; 32],
+    letters: &mut [u16; Word::KEYS],
+    keys: &mut [u8; Word::KEYS],
     mode: u8,
     n: Numbers,
     key: u8,

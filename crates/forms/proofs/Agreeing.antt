@@ -10,11 +10,11 @@ use Rattle.rules.specs.Letters.{Letter, Letters, plain, stroke, word, is, same,
 use Rattle.rules.specs.TakingApart.{isKind, frontIf, front, pastIf, past, before, run, plainU, iAndAnother, joins, initialOf, nucleusOf, initial, nucleus, final, leftovers, initials, fit, finals, Row, rows, takes, stands, someRow, isThis, listed, check, firstThatHolds, agreesAt, agrees, couldBe, someAgrees, admitted, verdict}
 use Rattle.rules.specs.KeyRoles.{shaped}
 use Rattle.rules.proofs.Edits.{dee}
-use Rattle.rules.proofs.Tests.{either as or-else, or-l, or-r}
+use Rattle.rules.proofs.Tests.{either as or-else, or-l, or-r, some-row-so}
 use Rattle.rules.proofs.Tests.{is-true}
 use Rattle.forms.specs.Forms.{capitals, casedAs}
 use Rattle.forms.proofs.KeyCourses.{bare}
-use Rattle.forms.proofs.SomeAndEvery.{and-if, and-so, some-row-so, meet}
+use Rattle.forms.proofs.SomeAndEvery.{and-if, and-so, meet}
 use Rattle.forms.proofs.Cases.{same-cased}
 use Rattle.forms.proofs.Bridge.{Passed, passed}
 
@@ -237,7 +237,7 @@ module _ {u w : Letters} (g : Agrees u w) (t : ℕ) (s : Passed w t) where
       go (isNil (nucleus u)) (oneOf (initial u) initials) (isNil (leftovers u)) (fit (initial u) (firstBase (nucleus u))) (oneOf (final u) finals) (someRow (couldBe (initial u) (nucleus u) (final u)) rows)
       (subst (λ (b : Bool). T (not b)) (sym (nil-agrees nuclei-agree)) (s .vowels)) (onset-known on (s .known)) (subst T (sym same-leftovers) (s .whole))
       (subst (λ (v : ℕ). T (fit (initial u) v)) (sym (first-agrees nuclei-agree)) (subst T (onset-fit (firstBase (nucleus w)) on) (s .suits)))
-      (subst (λ (f : Letters). T (oneOf f finals)) (sym same-final) (s .ends)) (some-row-so (isThis (initial w) (nucleus w) (final w)) (couldBe (initial u) (nucleus u) (final u)) rows could-be (s .list))
+      (subst (λ (f : Letters). T (oneOf f finals)) (sym same-final) (s .ends)) (some-row-so (isThis (initial w) (nucleus w) (final w)) (couldBe (initial u) (nucleus u) (final u)) could-be rows (s .list))
     where
       go : (e i n f g l : Bool) → T (not e) → T i → T n → T f → T g → T l →
           T (elim (eqb (firstThatHolds (check 1 e ∷ check 2 (not i) ∷ check 3 (not n) ∷ check 4 (not f) ∷ check 5 (not g) ∷ [])) 0) [ true ↦ l | false ↦ false ])

@@ -21,20 +21,6 @@ and-so false c t u = t
 pub or-so : (b c : Bool) → T b → T (elim b [ true ↦ true | false ↦ c ])
 or-so true c t = tt
 
-pub or-later : (b c : Bool) → T c → T (elim b [ true ↦ true | false ↦ c ])
-or-later true c t = tt
-or-later false c t = t
-
-some-so : (f g : Letters → Bool) (zs : List Letters) → ((z : Letters) → T (f z) → T (g z)) → T (someWord f zs) → T (someWord g zs)
-some-so f g [] h t = t
-some-so f g (z ∷ zs) h t = either (f z) (someWord f zs) (λ u. or-so (g z) (someWord g zs) (h z u)) (λ u. or-later (g z) (someWord g zs) (some-so f g zs h u)) t
-
-pub some-row-so : (f g : Row → Letters → Bool) (rs : List Row) → ((r : Row) (z : Letters) → T (f r z) → T (g r z)) → T (someRow f rs) → T (someRow g rs)
-some-row-so f g [] h t = t
-some-row-so f g (r ∷ rs) h t =
-    either (someWord (f r) (r .nuclei)) (someRow f rs) (λ u. or-so (someWord (g r) (r .nuclei)) (someRow g rs) (some-so (f r) (g r) (r .nuclei) (h r) u))
-    (λ u. or-later (someWord (g r) (r .nuclei)) (someRow g rs) (some-row-so f g rs h u)) t
-
 pub record Met (f g : Letters → Bool) : Type 0 where
   pub here : Letters
   pub one : T (f here)

@@ -5,7 +5,8 @@ use mathlib.Core.List.{List, [], _∷_}
 use Prim.Native.Nat.{ℕ}
 use lib.Dec.{T, eqb, eqb→eq}
 use lib.Ieee.Fits.{and-l, and-r}
-use Rattle.rules.specs.Letters.{Letter, elem, is}
+use Rattle.rules.specs.Letters.{Letter, Letters, elem, is, someWord}
+use Rattle.rules.specs.TakingApart.{Row, someRow}
 use Rattle.rules.specs.Refusals.{all}
 
 pub either : (p q : Bool) {P : Type 0} → (T p → P) → (T q → P) → T (p || q) → P
@@ -42,3 +43,15 @@ of-elem f b (x ∷ y ∷ ys) h t =
 pub is-letter : (x z : Letter) → T (is x z) → x ≡ record { base = z .base; shape = z .shape; capital = x .capital }
 is-letter x z t =
     ap₂ (λ (b sh : ℕ). record { base = b; shape = sh; capital = x .capital }) (eqb→eq (x .base) (z .base) (search and-l)) (eqb→eq (x .shape) (z .shape) (search and-r))
+
+-- what passes a stronger test passes a weaker one: some word of a list, and some nucleus of some row
+or-so : (a b c d : Bool) → (T a → T b) → (T c → T d) → T (elim a [ true ↦ true | false ↦ c ]) → T (elim b [ true ↦ true | false ↦ d ])
+or-so a true c d f g t = tt
+or-so true false c d f g t = absurd (f tt)
+or-so false false c d f g t = g t
+
+some-so : (f g : Letters → Bool) → ((z : Letters) → T (f z) → T (g z)) → (zs : List Letters) → T (someWord f zs) → T (someWord g zs)
+some-so f g h (z ∷ zs) t = or-so (f z) (g z) (someWord f zs) (someWord g zs) (h z) (some-so f g h zs) t
+
+pub some-row-so : (f g : Row → Letters → Bool) → ((r : Row) (z : Letters) → T (f r z) → T (g r z)) → (rs : List Row) → T (someRow f rs) → T (someRow g rs)
+some-row-so f g h (r ∷ rs) t = or-so (someWord (f r) (r .nuclei)) (someWord (g r) (r .nuclei)) (someRow f rs) (someRow g rs) (some-so (f r) (g r) (h r) (r .nuclei)) (some-row-so f g h rs) t

@@ -5,28 +5,17 @@ use mathlib.Core.List.{List, [], _∷_, _++_}
 use Prim.Native.Nat.{ℕ}
 use lib.Dec.{T, eqb}
 use lib.Ieee.Fits.{and-i, and-l, and-r}
-use Rattle.rules.specs.Letters.{Letters, plain, is, same, someWord, isNil, oneOf, firstBase}
-use Rattle.rules.specs.TakingApart.{initial, nucleus, final, leftovers, initials, finals, fit, Row, rows, takes, stands, someRow, isThis, listed, fits, Check, check, firstThatHolds, agreesAt, agrees, couldBe, someAgrees, admitted}
+use Rattle.rules.specs.Letters.{Letters, plain, is, same, isNil, oneOf, firstBase}
+use Rattle.rules.specs.TakingApart.{initial, nucleus, final, leftovers, initials, finals, fit, rows, takes, stands, isThis, listed, fits, Check, check, firstThatHolds, agreesAt, agrees, couldBe, someAgrees, admitted}
 use Rattle.rules.specs.KeyRoles.{toneGoes}
-use Rattle.rules.proofs.Tests.{is-true, or-r}
+use Rattle.rules.proofs.Tests.{is-true, or-r, some-row-so}
 use Rattle.syllable.specs.Checks.{initialFault, sixth, firstFault}
-use Rattle.parts.proofs.Bools.{pick, ifSo}
+use Rattle.parts.proofs.Bools.{ifSo}
 
 -- what passes a stronger test passes a weaker one
-or-so : (a b c d : Bool) → (T a → T b) → (T c → T d) → T (pick true a c) → T (pick true b d)
-or-so a true c d f g t = tt
-or-so true false c d f g t = absurd (f tt)
-or-so false false c d f g t = g t
-
 and-so : (a b c d : Bool) → (T a → T b) → (T c → T d) → T (ifSo a c) → T (ifSo b d)
 and-so true true c d f g t = g t
 and-so true false c d f g t = absurd (f tt)
-
-some-so : (f g : Letters → Bool) → ((z : Letters) → T (f z) → T (g z)) → (zs : List Letters) → T (someWord f zs) → T (someWord g zs)
-some-so f g h (z ∷ zs) t = or-so (f z) (g z) (someWord f zs) (someWord g zs) (h z) (some-so f g h zs) t
-
-some-row-so : (f g : Row → Letters → Bool) → ((r : Row) (z : Letters) → T (f r z) → T (g r z)) → (rs : List Row) → T (someRow f rs) → T (someRow g rs)
-some-row-so f g h (r ∷ rs) t = or-so (someWord (f r) (r .nuclei)) (someWord (g r) (r .nuclei)) (someRow f rs) (someRow g rs) (some-so (f r) (g r) (h r) (r .nuclei)) (some-row-so f g h rs) t
 
 -- letters agree with themselves, so a listed nucleus agrees with a listed one
 same-agrees : (v z : Letters) → T (same v z) → T (agrees v z)

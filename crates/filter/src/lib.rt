@@ -2,7 +2,8 @@
 // Reads, feeds and writes; a failed read or write ends the run, with what was answered so far written out and a message on standard error.
 ghost use mathlib.Core.Path.{_≡_};
 ghost use Prim.Native.Nat.{_+_, _*_, _≤_};
-ghost use lib.ListN.{length};
+ghost use lib.ListN.{length, take};
+ghost use Rattle.io.specs.Counts.{clamped};
 ghost use Rattle.rules.specs.TheWord.{atFront};
 ghost use Rattle.lines.specs.Appending.{mostInLine};
 ghost use Rattle.stream.specs.Feeding.{feeding, fedOf};
@@ -79,11 +80,11 @@ fn answer(state: Begun, block: &[u8], out: &mut [u8]) -> Passed
     }
 }
 
-// One read, and the answers to what came.
-fn pass(state: Begun, block: &mut [u8], out: &mut [u8]) -> Passed
+// The answers to what a read brought, and the state after all of it.
+fn pass(state: Begun, got: isize, block: &[u8], out: &mut [u8]) -> Passed
     requires { ⌜ mostInLine + 6 * length (now block) ≤ length (now out) ⌝ }
+    ensures { λ r. ⌜ r .state ≡ feeding state (take (clamped got (length (now (block .entry)))) (now (block .entry))) (length (now (out .entry))) .state ⌝ }
 {
-    let got = libc::read(STDIN_FILENO, block);
     if got < 0 {
         let program = state.program;
         complain(program, b"read\n");
@@ -118,7 +119,8 @@ fn passes(program: Program, block: &mut [u8], out: &mut [u8])
     let mut state = Begun::new(program);
     let mut turns = u64::MAX;
     while turns > 0 {
-        let read = pass(state, block, out);
+        let got = libc::read(STDIN_FILENO, block);
+        let read = pass(state, got, block, out);
         let next = read.next;
         if let Next::Ended = next {
             end(read.state, out);

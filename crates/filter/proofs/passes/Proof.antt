@@ -1,6 +1,5 @@
 -- `filter::passes` is safe and ends: its turns are counted down. The buffers keep their lengths.
 use mathlib.Core.Path.{_≡_, refl}
-use native.Mathlib.Omega.{arith}
 use lib.ListN.{length}
 use borrow.Author.Needs.{needs}
 use Rattle.filter.proofs.passes.Statement.{statement}
@@ -19,6 +18,7 @@ passes-spec =
     (λ c κs. search needs)
     (λ c. (refl, refl))
     (λ c κs. search needs)
+    (λ c κs. search needs)
     (λ c. search needs)
     (λ c κs. search needs)
     (λ c. search needs)
@@ -29,8 +29,8 @@ passes-spec =
     (λ c. search needs)
     (λ c. search needs)
     (λ c. search needs)
-    (λ c. omega (arith, c .before .before .before .before .before .before .before .before .before .before .loop-test .taken))
     (λ c. search needs)
-    (λ c. c .before .loop .inv .0)
-    (λ c. c .before .loop .inv .1)
+    (λ c. search needs)
+    (λ c. search needs)
+    (λ c. search needs)
     (λ c. search needs))

@@ -139,7 +139,7 @@ static void try_card(const struct card *c) {
 }
 
 /* A letter's number as the header says: the small ASCII code, 256 times the shape, 2048 for a capital. The shapes in numbers, not by the header's names. */
-enum { PLAIN = 0, CIRCUMFLEX = 1, STROKE = 4, CAPITAL = 2048 };
+enum { PLAIN = 0, CIRCUMFLEX = 1, HORN = 3, STROKE = 4, CAPITAL = 2048 };
 #define LETTER(small, shape, capital) ((small) + 256 * (shape) + (capital))
 
 /* A record by the places of the header; every byte of the 104 is one of these. */
@@ -276,21 +276,27 @@ static void try_macros(void) {
         check(FZ_TONE_SET(outcomes[i].did) == outcomes[i].tone, "the tone that was set", "FZ_TONE_SET");
         check(FZ_SHAPE_SET(outcomes[i].did) == outcomes[i].shape, "the shape that was set", "FZ_SHAPE_SET");
     }
-    type_all(FZ_TELEX, "DdooW", word, text);
-    check(FZ_LETTER(word, 0) == LETTER('d', STROKE, CAPITAL) && FZ_LETTER(word, 1) == LETTER('o', 3, 0), "the letters of a word", "FZ_LETTER");
-    check(FZ_LETTER_BASE(FZ_LETTER(word, 0)) == 'd' && FZ_LETTER_BASE(FZ_LETTER(word, 1)) == 'o', "the small ASCII code", "FZ_LETTER_BASE");
-    check(FZ_LETTER_SHAPE(FZ_LETTER(word, 0)) == STROKE && FZ_LETTER_SHAPE(FZ_LETTER(word, 1)) == 3, "the shape", "FZ_LETTER_SHAPE");
-    check(FZ_LETTER_CAPITAL(FZ_LETTER(word, 0)) == 1 && FZ_LETTER_CAPITAL(FZ_LETTER(word, 1)) == 0, "the case", "FZ_LETTER_CAPITAL");
+    type_all(FZ_TELEX, "DdooWN", word, text);
+    for (unsigned long i = 0; i < 3; i++) {
+        const unsigned letter[] = {LETTER('d', STROKE, CAPITAL), LETTER('o', HORN, 0), LETTER('n', PLAIN, CAPITAL)}, base[] = {'d', 'o', 'n'}, shape[] = {STROKE, HORN, PLAIN}, capital[] = {1, 0, 1};
+        const unsigned is = (unsigned)FZ_LETTER(word, i);
+        check(is == letter[i], "a letter of a word", "FZ_LETTER");
+        check(FZ_LETTER_BASE(is) == base[i], "the small ASCII code", "FZ_LETTER_BASE");
+        check(FZ_LETTER_SHAPE(is) == shape[i], "the shape", "FZ_LETTER_SHAPE");
+        check(FZ_LETTER_CAPITAL(is) == capital[i], "the case", "FZ_LETTER_CAPITAL");
+    }
 }
 
 /* The one overlap that the header promises: the keys and the text of fz_commit may be the same bytes, or share some. Each two parts of one buffer, and beside them the same keys and text apart. */
 static void try_overlap(void) {
-    const unsigned char shared[] = "lala1la";
+    const unsigned char shared[] = "lalala1";
     unsigned char keys[4], text[4];
     unsigned long v = UNWRITTEN, w;
     check(fz_commit(FZ_TELEX, shared, 4, shared, 4, &v) == 0 && v == 0, "keys and text are the same bytes", "fz_commit");
     v = UNWRITTEN;
-    check(fz_commit(FZ_TELEX, shared, 7, shared, 4, &v) == 3 && v == 4, "the text lies in keys of which one is none", "fz_commit");
+    check(fz_commit(FZ_TELEX, shared, 4, shared + 2, 4, &v) == 0 && v == 0, "the text begins within the keys", "fz_commit");
+    v = UNWRITTEN;
+    check(fz_commit(FZ_TELEX, shared, 7, shared, 4, &v) == 3 && v == 6, "the text lies in keys of which one is none", "fz_commit");
     for (unsigned long from = 0; from <= 3; from++)
         for (unsigned long at = 0; at <= 3; at++)
             for (unsigned long n = 0; n <= 4; n++)

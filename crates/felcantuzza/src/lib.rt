@@ -161,18 +161,7 @@ fn type_and_show_short(
 fn store(mode: u8, letters: [u16; Word::KEYS], keys: [u8; Word::KEYS], n: Numbers, lent: &mut [u8])
     ensures { λ _. ⌜ now (lent .exit) ≡ recordWritten (wordIn mode letters keys n) (now (lent .entry)) ⌝ }
 {
-    let w = Word {
-        mode: mode,
-        letters: letters,
-        count: n.count,
-        tone: n.tone,
-        closed: n.closed,
-        keys: keys,
-        typed: n.typed,
-        acted: n.acted,
-        undone: n.undone,
-        appended: n.appended,
-    };
+    let w = records::word_in(mode, letters, keys, n);
     layout::write(w, lent);
 }
 

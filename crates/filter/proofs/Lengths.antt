@@ -8,7 +8,8 @@ use Rattle.rules.specs.TheWord.{atFront}
 use Rattle.rules.specs.Refusals.{refusal}
 use Rattle.rules.specs.declared.WriteAnswer.{WriteAnswer}
 use Rattle.rules.specs.declared.WriteAnswer.the-variants.{Wrote}
-use Rattle.output.specs.Front.{roomCall, put}
+use Rattle.rules.specs.WhatComesBack.{roomCall}
+use Rattle.output.specs.Front.{put}
 use Rattle.output.proofs.Within.{in-front, written}
 use Rattle.lines.specs.Programs.{answerOf, headerOf}
 use Rattle.lines.specs.declared.Program.{Program}

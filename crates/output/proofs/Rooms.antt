@@ -12,7 +12,8 @@ use Rattle.rules.specs.AnswersInNumbers.{refusing, writeSays}
 use Rattle.rules.specs.declared.Refusal.{Refusal}
 use Rattle.rules.specs.declared.WriteAnswer.the-variants.{Wrote, Refused}
 use Rattle.rules.proofs.Refused.{write-exactly, write-refused}
-use Rattle.output.specs.Front.{roomCall, put}
+use Rattle.rules.specs.WhatComesBack.{roomCall}
+use Rattle.output.specs.Front.{put}
 
 module _ (text out : List ℕ) where
   pub no-room : length out < length text → put text out ≡ record { answer = Refused (record { number = 4; value = length text }); output = out }

@@ -210,7 +210,7 @@ box-tight =
     }
 
 -- lent bytes that hold these, and a lent number
-abbrev holds : List ℕ → RefT (List ℕ)
+abbrev pub holds : List ℕ → RefT (List ℕ)
 holds bs = record { ptr = (0, 0); name = 0; now = bs }
 
 abbrev number : ℕ → RefT ℕ

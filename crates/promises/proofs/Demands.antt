@@ -5,13 +5,13 @@ use mathlib.Core.Option.{Option, none, some}
 use mathlib.Core.Logic.{_↔_}
 use Prim.Native.Nat.{ℕ}
 use lib.ListN.{length, drop}
-use denote.Ref.{RefT, ptr}
+use denote.Ref.{ptr}
 use Rattle.rules.specs.Speller.{read}
 use Rattle.rules.specs.CodePoints.{shown}
 use Rattle.rules.specs.TheWord.{wordOf, atFront}
 use Rattle.rules.specs.Decision.{decision, handedBack}
 use Rattle.rules.specs.Refusals.{Call, table, refusal, FirstOf, NoneHolds}
-use Rattle.rules.specs.WhatComesBack.{startCall, startOr, start, stepCall, stepOr, step, typed, typeCall, typeOr, typeAll, writeOr, showCall, show, wordCall, placeOr, placeAnswer, verdictOr, verdictAnswer, decisionOr, decisionAnswer, commitCall, commitOr, commit, grantedOr, commitAnswer, keysOf, spellCall, spell}
+use Rattle.rules.specs.WhatComesBack.{startCall, startOr, start, stepCall, stepOr, step, typed, typeCall, typeOr, typeAll, writeOr, showCall, show, wordCall, placeOr, placeAnswer, verdictOr, verdictAnswer, decisionOr, decisionAnswer, commitCall, commitOr, commit, grantedOr, commitAnswer, keysOf, spellCall, spell, roomCall}
 use Rattle.rules.specs.AnswersInNumbers.{Says, answered, refusing, startSays, stepSays, typeSays, writeSays, placeSays, verdictSays, decisionSays, commitSays}
 use Rattle.rules.specs.Drill.{modeOf, lineOr, answerLine}
 use Rattle.rules.specs.SpellProgram.{textCall, spelledOr, spellLine}
@@ -28,10 +28,10 @@ use Rattle.output.specs.Front.{put}
 use Rattle.lines.specs.Programs.{lineAnswer}
 use Rattle.session.specs.declared.Session.{Session}
 use Rattle.promises.specs.Contracts.{CommitAllows}
-use Rattle.promises.specs.Exactly.{Exactly, lineCall}
+use Rattle.promises.specs.Exactly.{Exactly}
 use Rattle.promises.specs.Demands.{Demand1, Demand2, Tight, Possible, Demands}
 use Rattle.promises.proofs.AsDefined.{started, stepped, typed-as, shown-answer, shown-output, placed, judged, decided, handed-back, asked, spelled-answer, spelled-output, line-answer, line-output, key-answer, key-session}
-use Rattle.promises.proofs.Box.{box-answers, box-tight, box-possible}
+use Rattle.promises.proofs.Box.{box-answers, box-tight, holds, box-possible}
 use Rattle.promises.proofs.EachKey.{every-prefix, after-each-key, after-the-list, at-each-key}
 use Rattle.promises.proofs.RoundTrip.{spelled-back, lists-differ, only-syllables}
 use Rattle.promises.proofs.TwoOrders.{first-half}
@@ -110,8 +110,8 @@ demand-1 =
       drill-refuses = λ line x f. drill-line line (some x) (refusal-given (typeCall (modeOf line) (drop 2 line)) x .1 f);
       spell-answers = λ line n. spell-line line none (refusal-none (textCall (modeOf line) (drop 2 line)) .1 n);
       spell-refuses = λ line x f. spell-line line (some x) (refusal-given (textCall (modeOf line) (drop 2 line)) x .1 f);
-      drilling = λ line before after r a. exactly-written (lineCall (answerLine line) before) (answerLine line) before after r (line-answer a) (line-output a);
-      spelling-lines = λ line before after r a. exactly-written (lineCall (spellLine line) before) (spellLine line) before after r (line-answer a) (line-output a);
+      drilling = λ line before after r a. exactly-written (roomCall (answerLine line) before) (answerLine line) before after r (line-answer a) (line-output a);
+      spelling-lines = λ line before after r a. exactly-written (roomCall (spellLine line) before) (spellLine line) before after r (line-answer a) (line-output a);
       in-session = λ before after k r a.
           exactly {R = Says × Session} (stepCall (before .word) k) (stepSays r, after) (λ o. (stepSays (stepOr o (before .word) k .answer), record { word = stepOr o (before .word) k .word }))
           (λ i. (stepSays (key-answer a i), key-session a i)) saysOf (λ x. refl) (step-exactly (before .word) k);
@@ -155,10 +155,6 @@ at-one-place : (r : Ruling) (p : ℕ × ℕ) → p ≡ handedFrom r p p
 at-one-place (RulingKeep n) p = refl
 at-one-place RulingRestore p = refl
 at-one-place (RulingRefused x) p = refl
-
--- a lent slice that holds these bytes, at some place
-abbrev holds : List ℕ → RefT (List ℕ)
-holds bs = record { ptr = (0, 0); name = 0; now = bs }
 
 possible : Possible
 possible =

@@ -14,7 +14,7 @@ use Rattle.rules.specs.Decision.{decision}
 use Rattle.rules.specs.CodePoints.{shown}
 use Rattle.rules.specs.Speller.{read}
 use Rattle.rules.specs.Refusals.{Call, table, FirstOf, NoneHolds}
-use Rattle.rules.specs.WhatComesBack.{startCall, stepCall, typed, typeCall, showCall, wordCall, commitCall, keysOf, spellCall}
+use Rattle.rules.specs.WhatComesBack.{startCall, stepCall, typed, typeCall, showCall, wordCall, commitCall, keysOf, spellCall, roomCall}
 use Rattle.rules.specs.AnswersInNumbers.{Says, answered, refusing, outcomeNumbers, placeNumbers, decisionNumber, startSays, stepSays, typeSays, writeSays, placeSays, verdictSays, decisionSays, commitSays}
 use Rattle.rules.specs.Drill.{newline, modeOf, wordLine, refusedLine, answerLine}
 use Rattle.rules.specs.SpellProgram.{textCall, spellLine}
@@ -34,7 +34,7 @@ use Rattle.lines.specs.declared.Program.{Program}
 use Rattle.lines.specs.declared.Program.the-variants.{Drill, Spell}
 use Rattle.session.specs.declared.Session.{Session}
 use Rattle.promises.specs.Contracts.{StartAllows, StepAllows, TypeAllows, ShowAllows, PlaceAllows, VerdictAllows, DecisionAllows, CommitAllows, QuestionAllows, SpellAllows, LineAllows, KeyAllows}
-use Rattle.promises.specs.Exactly.{Exactly, lineCall}
+use Rattle.promises.specs.Exactly.{Exactly}
 use Rattle.promises.specs.Box.{BoxAnswers, BoxTight, BoxPossible}
 use Rattle.promises.specs.EachKey.{EveryPrefix, AfterEachKey, AfterTheList, AtEachKey}
 use Rattle.promises.specs.RoundTrip.{SpelledBack, OneList, OnlySyllables}
@@ -71,9 +71,9 @@ pub record Demand1 : Type 0 where
   pub spell-answers : (line : List ℕ) → NoneHolds (table (textCall (modeOf line) (drop 2 line))) → spellLine line ≡ keysOf (modeOf line) (read (drop 2 line)) ++ (newline ∷ [])
   pub spell-refuses : (line : List ℕ) (x : Refusal) → FirstOf (table (textCall (modeOf line) (drop 2 line))) x → spellLine line ≡ refusedLine x
   pub drilling : (line before after : List ℕ) (r : WriteAnswer) → LineAllows Drill line before r after →
-      Exactly {R = Says × List ℕ} (lineCall (answerLine line) before) (writeSays r, after) (answered (length (answerLine line) ∷ []), atFront (answerLine line) before) (λ x. (refusing x, before))
+      Exactly {R = Says × List ℕ} (roomCall (answerLine line) before) (writeSays r, after) (answered (length (answerLine line) ∷ []), atFront (answerLine line) before) (λ x. (refusing x, before))
   pub spelling-lines : (line before after : List ℕ) (r : WriteAnswer) → LineAllows Spell line before r after →
-      Exactly {R = Says × List ℕ} (lineCall (spellLine line) before) (writeSays r, after) (answered (length (spellLine line) ∷ []), atFront (spellLine line) before) (λ x. (refusing x, before))
+      Exactly {R = Says × List ℕ} (roomCall (spellLine line) before) (writeSays r, after) (answered (length (spellLine line) ∷ []), atFront (spellLine line) before) (λ x. (refusing x, before))
   -- the session after a refused key is as it was before
   pub in-session : (before after : Session) (k : ℕ) (r : StepAnswer) → KeyAllows before k r after →
       Exactly {R = Says × Session} (stepCall (before .word) k) (stepSays r, after) (answered (outcomeNumbers (outcomeOf (keyDoes (wordOf (before .word)) k))), record { word = holding (before .word) (type (wordOf (before .word)) k) }) (λ x. (refusing x, before))

@@ -1,9 +1,5 @@
 -- A call and what came back of it: the answer where no row of the refusal table holds, and a refusal exactly where it is that of the first row that holds.
 use mathlib.Core.Path.{_≡_}
-use mathlib.Core.List.{List}
-use mathlib.Core.Option.{none, some}
-use Prim.Native.Nat.{ℕ}
-use lib.ListN.{length}
 use Rattle.rules.specs.Refusals.{Call, table, FirstOf, NoneHolds}
 use Rattle.rules.specs.declared.Refusal.{Refusal}
 
@@ -11,7 +7,3 @@ pub record Exactly {R : Type 0} (c : Call) (came-back answer : R) (refused : Ref
   pub answers : NoneHolds (table c) → came-back ≡ answer
   pub refuses : (x : Refusal) → FirstOf (table c) x → came-back ≡ refused x
   pub only-then : (x : Refusal) → came-back ≡ refused x → FirstOf (table c) x
-
--- A line's answer as a call is about its output alone.
-abbrev pub lineCall : List ℕ → List ℕ → Call
-lineCall text out = record { record? = none; mode? = none; keys? = none; text? = none; room? = some (record { needed = length text; there = length out }) }

@@ -7,6 +7,8 @@ use Rattle.records.proofs.keys_allowed as keys-allowed
 use Rattle.records.proofs.keys_allowed.Reads as keys-allowed-reads
 use Rattle.records.proofs.letters_allowed as letters-allowed
 use Rattle.records.proofs.letters_allowed.Reads as letters-allowed-reads
+use Rattle.records.proofs.word_in as word-in
+use Rattle.records.proofs.word_in.Reads as word-in-reads
 use Rattle.records.proofs.numbers_of as numbers-of
 use Rattle.records.proofs.numbers_of.Reads as numbers-of-reads
 use Rattle.records.proofs.numbers_wrong as numbers-wrong
@@ -19,6 +21,9 @@ keys-allowed-one κs a r r′ e e′ p p′ = p ∙ sym p′
 
 pub letters-allowed-one : (κs : Lfts 1) (a : Args letters-allowed.signature κs) (r r′ : Res letters-allowed.signature κs) (e e′ : AtExit letters-allowed.ended κs) → letters-allowed-reads.Post κs a r e → letters-allowed-reads.Post κs a r′ e′ → r ≡ r′
 letters-allowed-one κs a r r′ e e′ p p′ = p ∙ sym p′
+
+pub word-in-one : (κs : Lfts 0) (a : Args word-in.signature κs) (r r′ : Res word-in.signature κs) (e e′ : AtExit word-in.ended κs) → word-in-reads.Post κs a r e → word-in-reads.Post κs a r′ e′ → r ≡ r′
+word-in-one κs a r r′ e e′ p p′ = p ∙ sym p′
 
 pub numbers-of-one : (κs : Lfts 0) (a : Args numbers-of.signature κs) (r r′ : Res numbers-of.signature κs) (e e′ : AtExit numbers-of.ended κs) → numbers-of-reads.Post κs a r e → numbers-of-reads.Post κs a r′ e′ → r ≡ r′
 numbers-of-one κs a r r′ e e′ p p′ = p ∙ sym p′

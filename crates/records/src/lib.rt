@@ -5,7 +5,7 @@ ghost use mathlib.Core.Path.{_≡_};
 ghost use Rattle.rules.specs.KeyRoles.{isKey};
 ghost use Rattle.rules.specs.Refusals.{all, outOfRange};
 ghost use Rattle.letters.specs.Writing.{isLetter};
-ghost use Rattle.records.specs.Numbers.{numbersOf, numbersWrong};
+ghost use Rattle.records.specs.Numbers.{numbersOf, wordIn, numbersWrong};
 
 // The kept keys are allowed in the mode.
 pub fn keys_allowed(mode: u8, keys: &[u8]) -> bool
@@ -57,6 +57,24 @@ pub fn numbers_of(w: Word) -> Numbers
         count: w.count,
         tone: w.tone,
         closed: w.closed,
+    }
+}
+
+// The record that a mode, letters, keys and numbers are.
+pub fn word_in(mode: u8, letters: [u16; Word::KEYS], keys: [u8; Word::KEYS], n: Numbers) -> Word
+    ensures { λ r. ⌜ r ≡ wordIn mode letters keys n ⌝ }
+{
+    Word {
+        mode: mode,
+        letters: letters,
+        count: n.count,
+        tone: n.tone,
+        closed: n.closed,
+        keys: keys,
+        typed: n.typed,
+        acted: n.acted,
+        undone: n.undone,
+        appended: n.appended,
     }
 }
 

@@ -295,17 +295,6 @@ pub fn step(w: Word, key: u8) -> Step
     let n = done.numbers;
     Step {
         answer: answer,
-        word: Word {
-            mode: w.mode,
-            letters: letters,
-            count: n.count,
-            tone: n.tone,
-            closed: n.closed,
-            keys: keys,
-            typed: n.typed,
-            acted: n.acted,
-            undone: n.undone,
-            appended: n.appended,
-        },
+        word: records::word_in(w.mode, letters, keys, n),
     }
 }

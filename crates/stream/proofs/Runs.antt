@@ -13,11 +13,11 @@ use lib.Seq.{take-suc-set, take-append-le}
 use Rattle.rules.specs.Drill.{newline, header, lastLine, linesFrom, answers, drill}
 use Rattle.rules.specs.SpellProgram.{spellProgram}
 use Rattle.rules.specs.Refusals.{refusal}
-use Rattle.rules.specs.WhatComesBack.{writeOr}
+use Rattle.rules.specs.WhatComesBack.{writeOr, roomCall}
 use Rattle.rules.specs.declared.Refusal.{Refusal}
 use Rattle.rules.specs.declared.WriteAnswer.the-variants.{Wrote}
 use Rattle.rules.proofs.StaysInRange.{read-front}
-use Rattle.output.specs.Front.{roomCall, put}
+use Rattle.output.specs.Front.{put}
 use Rattle.lines.specs.Programs.{answerOf}
 use Rattle.lines.specs.declared.Program.{Program}
 use Rattle.lines.specs.declared.Program.the-variants.{Drill, Spell}

@@ -78,18 +78,7 @@ fn typed_all(mode: u8, keys: &[u8]) -> Word
         n = done.numbers;
         i += 1;
     }
-    Word {
-        mode: mode,
-        letters: letters,
-        count: n.count,
-        tone: n.tone,
-        closed: n.closed,
-        keys: kept,
-        typed: n.typed,
-        acted: n.acted,
-        undone: n.undone,
-        appended: n.appended,
-    }
+    records::word_in(mode, letters, kept, n)
 }
 
 fn refused(number: u8, value: usize) -> TypeAll

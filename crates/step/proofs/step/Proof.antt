@@ -2,6 +2,7 @@
 use mathlib.Core.Path.{ap, _∙_}
 use borrow.Author.Needs.{needs}
 use Rattle.rules.specs.WhatComesBack.{step}
+use Rattle.rules.specs.declared.Word.{Word}
 use Rattle.records.specs.declared.Numbers.{Numbers}
 use Rattle.records.specs.Numbers.{wordIn}
 use Rattle.step.proofs.step.Statement.{statement}
@@ -13,7 +14,8 @@ step-spec =
     (tie.spec
     (λ c κs. search needs)
     (λ c κs. search needs)
+    (λ c κs. search needs)
     (λ c.
-    let told = c .before in
+    let told = c .before .before in
     let args = told .before .before .before .before .before .before .args in
-    told .step-in .ensures ∙ ap (λ (n : Numbers). step (wordIn (args .w .mode) (args .w .letters) (args .w .keys) n) (args .key)) (told .before .numbers-of .ensures)))
+    ap (λ (w : Word). record { answer = told .step-in .result .answer; word = w }) (c .word-in .ensures) ∙ told .step-in .ensures ∙ ap (λ (n : Numbers). step (wordIn (args .w .mode) (args .w .letters) (args .w .keys) n) (args .key)) (told .before .numbers-of .ensures)))

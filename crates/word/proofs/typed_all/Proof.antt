@@ -11,8 +11,7 @@ use Rattle.rules.specs.WhatComesBack.{step, typed}
 use Rattle.rules.specs.declared.Word.{Word}
 use Rattle.rules.specs.declared.Start.{Start}
 use Rattle.rules.specs.declared.Step.{Step}
-use Rattle.records.specs.Numbers.{numbersOf}
-use Rattle.records.specs.Numbers.{wordIn}
+use Rattle.records.specs.Numbers.{numbersOf, wordIn}
 use Rattle.word.proofs.Lists.{one-more, started}
 use Rattle.word.proofs.typed_all.Statement.{statement}
 use Rattle.word.proofs.typed_all.Tie as tie
@@ -52,7 +51,9 @@ typed-all-spec =
       ap (λ (s : Step). s .word) (told .step-in .ensures) ∙ ap (λ (w : Word). step w (getD (at .args .keys .now) i 0) .word) (loop .loop .inv .1) ∙
           one-more (at .args .mode) (at .args .keys .now) (at .pre .0) (at .pre .1) (at .pre .2) i (turn .loop-test .taken),
     ))
+    (λ c κs. search needs)
     (λ c.
-    let loop = c .before in
+    let ended = c .before in
+    let loop = ended .before in
     let at = loop .before .before .before .before .before .before .before in
-    loop .loop .inv .1 ∙ ap (λ (ks : List ℕ). holding (newWord (at .args .mode)) (typed (at .args .mode) ks)) (take-all (loop .loop .i) (at .args .keys .now) (c .loop-test .left))))
+    c .word-in .ensures ∙ loop .loop .inv .1 ∙ ap (λ (ks : List ℕ). holding (newWord (at .args .mode)) (typed (at .args .mode) ks)) (take-all (loop .loop .i) (at .args .keys .now) (ended .loop-test .left))))

@@ -36,7 +36,7 @@
 #ifndef FELCANTUZZA_H
 #define FELCANTUZZA_H
 
-#define FZ_VERSION "0.15"
+#define FZ_VERSION "0.16"
 
 /* Lengths in bytes. */
 #define FZ_WORD 104 /* a word */

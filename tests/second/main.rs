@@ -90,27 +90,57 @@ fn any_bytes(dice: &mut Dice, most: usize) -> Vec<u8> {
     (0..dice.roll(most + 1)).map(|_| dice.roll(256) as u8).filter(|&b| b != b'\n').collect()
 }
 
-/// Words around q, u, o and yê, written down by hand: the forms are made by the rule that judges, so a rule that is wrong
-/// about these would not make them. As keys in each mode, and as shown, with a shaped u that no keys give after q.
-const AROUND_QU_TELEX: &str = "q qu qw quw qwu quwo quow quwow qwuo quoww quuw quwu quuow quuwo quwuo quo quoo quoow quoi quoai quowi quooi \
-    qua quaw quwa quaa quaaw quau quay quaay que quew quee queew queo quy quyw quye quyee quyew quwyee quyeeu quyeu quyu quya quie quiee quiw \
-    yee yeeu uyee uyw tyee tuyee hyeeu gyee giee giwo qyee qoa qowu uqw uow uw";
-const AROUND_QU_VNI: &str = "q qu q7 qu7 q7u qu7o quo7 qu7o7 q7uo quo77 quu7 qu7u quuo7 quu7o qu7uo quo quo6 quo67 quo76 quoi quoai quo7i quo6i \
-    qua qua8 qua7 qu8a qua6 qua68 quau quay qua6y que que7 que6 que67 queo quy quy7 quye quye6 quy6e quye7 qu6ye qu7ye6 quye6u quyeu quyu quya \
-    quie quie6 qui7 ye6 ye6u uye6 uy7 tye6 tuye6 hye6u gye6 gie6 gi7o qye6 qoa qo7u uq7 uo7 u7";
-const AROUND_QU_SHOWN: &str = "q qu qư qừ qưa qứa qưu qưi qươ qướ qườn qương qựơ quư quứ quươ quưa quướ quườn quo quó quô quố quốc quơ quờ quởn \
-    quơi quôi quoa quoai quă quắn quâ quầy que quê quế quên quy quỳ quýt quỳnh quyu quya quyê quyế quyên quyền quyến quýên qúyên quyén quyết quyêt \
-    quyếch quyềng quyêu quyếu yê yên yêu yếu uyên tyên tyêu tuyên tuyến huyền gyên giyên qyên qiên quiên quiến qúa qứ qụ";
+/// Words written down by hand, around q, u, o and yê and around huơ: the forms are made by the rule that judges, so a rule
+/// that is wrong about these would not make them. As keys in each mode, and as shown.
+struct Written {
+    telex: &'static str,
+    vni: &'static str,
+    shown: &'static str,
+    /// What may follow the keys.
+    ends: &'static [&'static str],
+}
 
-fn around_qu(dice: &mut Dice, mode: Mode) -> Vec<u8> {
+const WRITTEN: [Written; 2] = [
+    // with a shaped u that no keys give after q
+    Written {
+        telex: "q qu qw quw qwu quwo quow quwow qwuo quoww quuw quwu quuow quuwo quwuo quo quoo quoow quoi quoai quowi quooi \
+            qua quaw quwa quaa quaaw quau quay quaay que quew quee queew queo quy quyw quye quyee quyew quwyee quyeeu quyeu quyu quya quie quiee quiw \
+            yee yeeu uyee uyw tyee tuyee hyeeu gyee giee giwo qyee qoa qowu uqw uow uw",
+        vni: "q qu q7 qu7 q7u qu7o quo7 qu7o7 q7uo quo77 quu7 qu7u quuo7 quu7o qu7uo quo quo6 quo67 quo76 quoi quoai quo7i quo6i \
+            qua qua8 qua7 qu8a qua6 qua68 quau quay qua6y que que7 que6 que67 queo quy quy7 quye quye6 quy6e quye7 qu6ye qu7ye6 quye6u quyeu quyu quya \
+            quie quie6 qui7 ye6 ye6u uye6 uy7 tye6 tuye6 hye6u gye6 gie6 gi7o qye6 qoa qo7u uq7 uo7 u7",
+        shown: "q qu qư qừ qưa qứa qưu qưi qươ qướ qườn qương qựơ quư quứ quươ quưa quướ quườn quo quó quô quố quốc quơ quờ quởn \
+            quơi quôi quoa quoai quă quắn quâ quầy que quê quế quên quy quỳ quýt quỳnh quyu quya quyê quyế quyên quyền quyến quýên qúyên quyén quyết quyêt \
+            quyếch quyềng quyêu quyếu yê yên yêu yếu uyên tyên tyêu tuyên tuyến huyền gyên giyên qyên qiên quiên quiến qúa qứ qụ",
+        ends: &["", "", "n", "t", "ng", "nh", "c", "u"],
+    },
+    Written {
+        telex: "huo huow huoww huowww huwow huwo huoow huooww huowo huowoo huwoo huowr huwowr thuo thuow thuowr thuoww thuoow thuorw thurow thuwow \
+            khuo khuow khuoww khuoow huowng huowngw huowcs huowtj huowi huowu huowm huown huowp huowh huowd huowa huowe huowy huowk huowwn huowwc \
+            thuowng thuowngf khuowu khuowi hwuo hwuow hwuon hwoun huonw huowiw huowuw huownw huuow hhuow huoi huoiw huou huouw huong huongw \
+            uow uown luow luown luowng chuow nhuow phuow quow nghuow ghuow dhuow ddhuow shuow thhuow tuow kuow khhuow thuowz huowz huowsz huosw",
+        vni: "huo huo7 huo77 huo777 hu7o7 hu7o huo67 huo677 huo7o huo76 hu7o6 huo73 hu7o73 thuo thuo7 thuo73 thuo77 thuo67 thuo37 thu3o7 thu7o7 \
+            khuo khuo7 khuo77 khuo67 huo7ng huo7ng7 huo7c1 huo7t5 huo7i huo7u huo7m huo7n huo7p huo7h huo7d huo7a huo7e huo7y huo7k huo77n huo77c \
+            thuo7ng thuo7ng2 khuo7u khuo7i h7uo h7uo7 h7uon huon7 huo7i7 huo7u7 huo7n7 huuo7 hhuo7 huoi huoi7 huou huou7 huong huong7 huo78 huo79 \
+            uo7 uo7n luo7 luo7n luo7ng chuo7 nhuo7 phuo7 quo7 nghuo7 ghuo7 dhuo7 d9huo7 shuo7 thhuo7 tuo7 kuo7 khhuo7 thuo70 huo70 huo710 huo17",
+        shown: "huơ huớ huờ huở huỡ huợ thuơ thuở khuơ khuở hươ hướ thưở thưỡ hưo húơ thủơ huơn huơng huơc huớc huơi huơu hương hươu hươi hước thường \
+            uơ uở luơ luở chuơ nhuơ phuơ quơ quờ tuơ kuơ ghuơ nghuơ đuơ huô huố huo húo thuôn thuốn thuơh huơa",
+        ends: &["", "", "i", "u", "c", "m", "n", "p", "t", "ng", "h", "a", "k"],
+    },
+];
+
+fn words_of<'a>(dice: &mut Dice, words: &'a str) -> &'a str {
+    *dice.of(&words.split_whitespace().collect::<Vec<_>>())
+}
+
+fn written_keys(dice: &mut Dice, mode: Mode) -> Vec<u8> {
+    let group = dice.of(&WRITTEN);
     let (words, marks): (&str, &[u8]) = match mode {
-        Mode::Telex => (AROUND_QU_TELEX, b"sfrxjzweao"),
-        Mode::Vni => (AROUND_QU_VNI, b"0123456789"),
+        Mode::Telex => (group.telex, b"sfrxjzweao"),
+        Mode::Vni => (group.vni, b"0123456789"),
     };
-    let words: Vec<&str> = words.split_whitespace().collect();
-    let ends: [&[u8]; 8] = [b"", b"", b"n", b"t", b"ng", b"nh", b"c", b"u"];
-    let mut keys = dice.of(&words).as_bytes().to_vec();
-    keys.extend(*dice.of(&ends));
+    let mut keys = words_of(dice, words).as_bytes().to_vec();
+    keys.extend(dice.of(group.ends).bytes());
     if dice.roll(2) == 0 {
         let at = dice.roll(keys.len() + 1);
         keys.insert(at, *dice.of(marks));
@@ -118,9 +148,9 @@ fn around_qu(dice: &mut Dice, mode: Mode) -> Vec<u8> {
     keys.into_iter().map(|key| in_some_case(dice, key)).collect()
 }
 
-fn around_qu_shown(dice: &mut Dice) -> Vec<u8> {
-    let words: Vec<&str> = AROUND_QU_SHOWN.split_whitespace().collect();
-    let word = *dice.of(&words);
+fn written_text(dice: &mut Dice) -> Vec<u8> {
+    let group = dice.of(&WRITTEN);
+    let word = words_of(dice, group.shown);
     let in_case: String = word.chars().flat_map(|c| if dice.roll(8) == 0 { c.to_uppercase().collect::<Vec<_>>() } else { vec![c] }).collect();
     in_case.into_bytes()
 }
@@ -155,7 +185,7 @@ fn drill_keys(dice: &mut Dice, mode: Mode, forms: &[Vec<Letter>]) -> Vec<u8> {
             }
         }
         7 | 8 => keys = some_bytes(dice, 10, KEYS),
-        9 => keys = around_qu(dice, mode),
+        9 => keys = written_keys(dice, mode),
         _ => {
             keys = match dice.roll(4) {
                 0 => any_bytes(dice, 40),
@@ -185,7 +215,7 @@ fn spell_text(dice: &mut Dice, forms: &[Vec<Letter>]) -> Vec<u8> {
         // cut, doubled, foreign or random bytes
         6 | 7 => slip(dice, &mut bytes, &[0xC3, 0xE1, 0xBB, 0x80, 0xC0, 0xF0, b'a', b'1', b' ', 0xBF, 0xC4, 0x91]),
         8 => bytes = syllable::shown(&dice.of(forms).clone(), dice.roll(6)).repeat(1 + dice.roll(40)).into_bytes(),
-        9 => bytes = around_qu_shown(dice),
+        9 => bytes = written_text(dice),
         _ => bytes = any_bytes(dice, 110),
     }
     bytes
@@ -204,9 +234,8 @@ fn line(dice: &mut Dice, spell: bool, forms: &[Vec<Letter>]) -> Vec<u8> {
 
 /// Each word that is written down, once in each mode as it stands: these lines come first, from every seed.
 fn written_lines(spell: bool) -> Vec<Vec<u8>> {
-    let (telex, vni) = if spell { (AROUND_QU_SHOWN, AROUND_QU_SHOWN) } else { (AROUND_QU_TELEX, AROUND_QU_VNI) };
     let in_mode = |mode: &str, words: &str| words.split_whitespace().map(|w| format!("{mode} {w}").into_bytes()).collect::<Vec<_>>();
-    [in_mode("T", telex), in_mode("V", vni)].concat()
+    WRITTEN.iter().flat_map(|g| if spell { [in_mode("T", g.shown), in_mode("V", g.shown)] } else { [in_mode("T", g.telex), in_mode("V", g.vni)] }).flatten().collect()
 }
 
 fn answers_of(program: &str, input: Vec<u8>) -> std::io::Result<Vec<u8>> {

@@ -43,7 +43,7 @@ const ROWS: [(&str, &str, bool); 8] = [
     ("y uy", "ch n nh p t", true),
     ("uyê", "n t", false),
     (
-        "ai ao au ay âu ây eo êu ia iu oi ôi ơi ua ui ưa ưi ưu iêu yêu oai oay oeo uây uôi uya ươi ươu uyu uêu oao",
+        "ai ao au ay âu ây eo êu ia iu oi ôi ơi ua ui ưa ưi ưu iêu yêu oai oay oeo uây uôi uya ươi ươu uyu uêu oao uơ",
         "",
         true,
     ),
@@ -126,7 +126,8 @@ fn stands_after(initial: &str, nucleus: &str) -> bool {
     let yes = !(nucleus == "yê" || nucleus == "yêu") || initial.is_empty() || initial == "qu";
     let two = nucleus.chars().count() >= 2;
     let with_o = "oôơ".contains(nucleus.chars().next().unwrap());
-    yes && !(initial == "qu" && two && with_o)
+    let horned = nucleus != "uơ" || matches!(initial, "h" | "kh" | "th");
+    yes && horned && !(initial == "qu" && two && with_o)
 }
 
 fn takes_final(initial: &str, nucleus: &str, finals: &str, open: bool, last: &str) -> bool {
@@ -203,6 +204,14 @@ pub fn admitted(w: &[Letter]) -> bool {
                 && (last.is_empty() || takes_final(&initial, z, finals, open, &last))
         })
     })
+}
+
+/// Is the word h, kh or th, a plain u and an o in any shape, and no more?
+pub fn is_huo(w: &[Letter]) -> bool {
+    let Some(from) = w.len().checked_sub(2) else {
+        return false;
+    };
+    matches!(spelling(&w[..from]).as_str(), "h" | "kh" | "th") && name(w[from]) == 'u' && w[from + 1].base == 'o'
 }
 
 pub fn place(w: &[Letter], tone: usize) -> Option<usize> {

@@ -1,6 +1,6 @@
 //! Document 01, second reading: one key typed, and a list of keys.
 
-use crate::syllable::{Letter, Mode, Shape, admitted, tone_fits, verdict};
+use crate::syllable::{Letter, Mode, Shape, admitted, is_huo, tone_fits, verdict};
 
 pub struct Word {
     pub mode: Mode,
@@ -33,8 +33,17 @@ impl Word {
     }
 
     fn append(&mut self, key: u8) {
+        self.second_horn(key.to_ascii_lowercase() as char);
         self.plain_letter(key);
         self.appended += 1;
+    }
+
+    /// The one case in which an appended letter changes an earlier one: the u of an open huơ, khuơ or thuơ gets the horn too.
+    fn second_horn(&mut self, letter: char) {
+        let n = self.letters.len();
+        if self.open && is_huo(&self.letters) && self.letters[n - 1].shape == Shape::Horn && "iucmnpt".contains(letter) {
+            self.letters[n - 2].shape = Shape::Horn;
+        }
     }
 
     fn undo(&mut self, key: u8) {
@@ -73,6 +82,9 @@ impl Word {
 
     fn horn_target(&self) -> Vec<usize> {
         let w = &self.letters;
+        if is_huo(w) {
+            return vec![w.len() - 1];
+        }
         let free = |i: usize| i == 0 || w[i - 1].base != 'q';
         for i in 0..w.len().saturating_sub(1) {
             if w[i].base == 'u' && w[i + 1].base == 'o' && free(i) {

@@ -14,7 +14,8 @@ use Rattle.rules.proofs.Tests.{either as or-else, or-l, or-r, some-row-so}
 use Rattle.rules.proofs.Tests.{is-true}
 use Rattle.forms.specs.Forms.{capitals, casedAs}
 use Rattle.forms.proofs.KeyCourses.{bare}
-use Rattle.forms.proofs.SomeAndEvery.{and-if, and-so, meet}
+use Rattle.rules.proofs.Bools.{and-if, and-so}
+use Rattle.forms.proofs.SomeAndEvery.{meet}
 use Rattle.forms.proofs.Cases.{same-cased}
 use Rattle.forms.proofs.Bridge.{Passed, passed}
 

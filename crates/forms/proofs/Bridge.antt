@@ -10,7 +10,7 @@ use Rattle.rules.specs.Letters.{Letter, Letters, named, is, same, someWord, one
 use Rattle.rules.specs.TakingApart.{before, run, plainU, iAndAnother, joins, withFirst, rest, initialOf, nucleusOf, initial, nucleus, final, leftovers, initials, fit, finals, Row, rows, takes, stands, someRow, isThis, listed, fits, check, firstThatHolds, verdict}
 use Rattle.rules.proofs.Wholes.{whole}
 use Rattle.forms.specs.Forms.{gather, gatherRows, thoseIf, withFinal, mayFollow, withNucleus, withInitial, allForms, capitals}
-use Rattle.forms.proofs.SomeAndEvery.{either, and-if, or-so}
+use Rattle.rules.proofs.Bools.{either, and-if, or-so}
 use Rattle.forms.proofs.Cases.{same-cased, same-append, fit-cased, stands-cased, joins-cased, takes-cased}
 
 -- the checks that a verdict of 0 passed

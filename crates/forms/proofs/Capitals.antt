@@ -1,16 +1,16 @@
--- Which letters are capitals: an acting key keeps it, and letters that are the same but for their case, with the same capitals, are the same.
-use mathlib.Core.Path.{_≡_, refl, ap, subst, _∙_}
+-- Which letters are capitals: a key that acts or is appended keeps it, and letters that are the same but for their case, with the same capitals, are the same.
+use mathlib.Core.Path.{_≡_, refl, sym, ap, subst, _∙_}
 use mathlib.Core.Bool.{Bool}
 use mathlib.Core.List.{List, [], _∷_, _++_}
 use Prim.Native.Nat.{ℕ}
 use lib.Dec.{T}
-use Rattle.rules.specs.Letters.{Letters, same}
+use Rattle.rules.specs.Letters.{Letter, Letters, same}
 use Rattle.rules.specs.TakingApart.{admitted, final}
 use Rattle.rules.specs.TheWord.{State}
-use Rattle.rules.specs.KeyRoles.{change}
+use Rattle.rules.specs.KeyRoles.{takesSecondHorn, hornOnUIf, append, change}
 use Rattle.rules.specs.declared.Act.{Act}
 use Rattle.rules.specs.declared.Role.{Role}
-use Rattle.rules.proofs.Edits.{Alike, end, kept, moved, Good, good, good-shape, good-stroke}
+use Rattle.rules.proofs.Edits.{Alike, end, kept, moved, Good, good, good-shape, good-stroke, alike-second}
 use Rattle.rules.proofs.Commute.{Acts, by-tone, by-clear, by-shape, by-stroke}
 use Rattle.forms.specs.Forms.{capitals, casedAs}
 use Rattle.forms.proofs.Cases.{same-cased}
@@ -30,6 +30,10 @@ capitals-alike : {changed : ℕ → Bool} {v w : Letters} → Alike changed v w 
 capitals-alike end = refl
 capitals-alike (kept {x = x} r) = ap (_∷_ (x .capital)) (capitals-alike r)
 capitals-alike (moved {x = x} sh t c r) = ap (_∷_ (x .capital)) (capitals-alike r)
+
+pub capitals-appended : (s : State) (k : Letter) → capitals (append s k .letters) ≡ capitals (s .letters) ++ (k .capital ∷ [])
+capitals-appended s k =
+    capitals-append (hornOnUIf (takesSecondHorn s k) (s .letters)) (k ∷ []) ∙ ap (λ (l : List Bool). l ++ (k .capital ∷ [])) (sym (capitals-alike (alike-second (takesSecondHorn s k) (s .letters))))
 
 -- what a key that acts leaves: the same capitals, the same final, and letters admitted if they were
 pub record Left (v w : Letters) : Type 0 where

@@ -7,7 +7,7 @@ use Rattle.rules.specs.Letters.{Letter, Letters, is, same, oneOf, isNil, firstB
 use Rattle.rules.specs.TakingApart.{plainU, iAndAnother, joins, fit, Row, takes, stands}
 use Rattle.rules.proofs.Tests.{is-letter}
 use Rattle.forms.specs.Forms.{capitals, otherCases, casedAs}
-use Rattle.forms.proofs.SomeAndEvery.{and-if, and-so}
+use Rattle.rules.proofs.Bools.{and-if, and-so}
 
 pub same-cased : (w z : Letters) → T (same w z) → w ≡ casedAs (capitals w) z
 same-cased [] [] t = refl
@@ -57,7 +57,7 @@ module _ (p : List Bool) (i n : Letters) where
   fit-cased q = simp (cased-same p i, cased-one p i, cased-first q n)
 
   pub stands-cased : stands (casedAs p i) n ≡ stands i n
-  stands-cased = simp (cased-same p i, cased-nil p i)
+  stands-cased = simp (cased-same p i, cased-one p i, cased-nil p i)
 
   pub joins-cased : (q : List Bool) → joins (casedAs p i) (casedAs q n) ≡ joins i n
   unfolding joins

@@ -1,44 +1,27 @@
 -- What the test of a course says of typing it.
 use mathlib.Core.Path.{_≡_, refl, sym, ap, _∙_}
-use mathlib.Core.Bool.{Bool, false, not, _&&_}
+use mathlib.Core.Bool.{Bool, false, _&&_}
 use mathlib.Core.List.{List, [], _∷_, _++_, map, append-assoc, append-nil}
 use Prim.Native.Nat.{ℕ}
 use native.Mathlib.Omega.{arith}
-use lib.Dec.{T, eqb}
+use lib.Dec.{T}
 use lib.Ieee.Fits.{and-i, and-l, and-r}
 use Rattle.rules.specs.Letters.{Letter, Letters, plain, noTone, same}
-use Rattle.rules.specs.TheWord.{State, Done, stateOf, outcomeOf, isAppended}
-use Rattle.rules.specs.KeyRoles.{isKey, isSmall, role, letterOfKey, append, withLetters, undoIf, actIf, toneGoes, shaped, Edit, nothing, off, change, shapeEdit, strokeEdit, editDoes, roleDoes}
+use Rattle.rules.specs.TheWord.{State, stateOf, outcomeOf, isAppended}
+use Rattle.rules.specs.KeyRoles.{isKey, isSmall, role, letterOfKey, append, withLetters, shaped, Edit, nothing, off, change, roleDoes}
 use Rattle.rules.specs.Speller.{keyOfLetter}
 use Rattle.rules.specs.Refusals.{all}
 use Rattle.rules.specs.declared.Role.{Role}
 use Rattle.rules.specs.declared.Role.the-variants.{ToneRole, ShapeRole, StrokeRole, NoRole}
-use Rattle.rules.specs.declared.ToneKey.the-variants.{SetTone, ClearTone}
 use Rattle.rules.specs.declared.Act.{Act}
+use Rattle.rules.proofs.Appends.{leaves-appended}
 use Rattle.rules.proofs.Commute.{Acts, by-shape, by-stroke, acted-if}
 use Rattle.forms.specs.Forms.{capitals}
 use Rattle.rules.specs.Syllables.{openWord, bareKeys}
 use Rattle.forms.proofs.KeyCourses.{Item, letter, mark, itemKeys, roleOf, editBy, walk, typesTo}
-use Rattle.forms.proofs.SomeAndEvery.{and-if}
+use Rattle.rules.proofs.Bools.{and-if}
 use Rattle.forms.proofs.Presses.{press, pressing, letter-of-key, letter-allowed}
-use Rattle.forms.proofs.Capitals.{capitals-append, same-capitals, left}
-
--- a key of which it is computed that it is appended
-appended-edit : (e : Edit) (s : State) (k : Letter) → T (isAppended (outcomeOf (editDoes e s k))) → stateOf (editDoes e s k) ≡ append s k
-appended-edit nothing s k t = refl
-
-appended-if : (c : Bool) (a : Act) (s p : State) → T (isAppended (outcomeOf (actIf c a s p))) → stateOf (actIf c a s p) ≡ p
-appended-if false a s p t = refl
-
-appended-unless : (c : Bool) (u : State) (d : Done) (p : State) → (T (isAppended (outcomeOf d)) → stateOf d ≡ p) → T (isAppended (outcomeOf (undoIf c u d))) → stateOf (undoIf c u d) ≡ p
-appended-unless false u d p h t = h t
-
-appended-so : (r : Role) (s : State) (k : Letter) → T (isAppended (outcomeOf (roleDoes r s k))) → stateOf (roleDoes r s k) ≡ append s k
-appended-so (ToneRole (SetTone t)) s k h = appended-unless (eqb (s .tone) t) _ _ _ (appended-if (toneGoes t (s .letters)) _ _ _) h
-appended-so (ToneRole ClearTone) s k h = appended-if (not (eqb (s .tone) noTone)) _ _ _ h
-appended-so (ShapeRole e) s k h = appended-edit (shapeEdit e (s .letters)) s k h
-appended-so StrokeRole s k h = appended-edit (strokeEdit (s .letters)) s k h
-appended-so NoRole s k h = refl
+use Rattle.forms.proofs.Capitals.{capitals-appended, same-capitals, left}
 
 -- a key of which it is computed that it changes letters
 pub acts-edit : (r : Role) (s : State) {a : Act} {u : Letters} → editBy r (s .letters) ≡ change a u → Acts r s a (withLetters s u)
@@ -73,15 +56,16 @@ walked mode f w [] t = record { to = w; pressed = refl; caps = sym (append-nil (
 walked mode f w (letter x ∷ xs) t =
     let z = shaped plain x in
     let d = isAppended (outcomeOf (roleDoes (roleOf mode (x .base)) (openWord w noTone) z)) in
-    let (c, t′) = and-if (isSmall (x .base) && d) (walk mode f (w ++ (z ∷ [])) xs) t in
-    let more = walked mode f (w ++ (z ∷ [])) xs t′ in
-    let p : press mode (openWord w noTone) (keyOfLetter x) ≡ openWord (w ++ (z ∷ [])) noTone =
+    let v = append (openWord w noTone) z .letters in
+    let (c, t′) = and-if (isSmall (x .base) && d) (walk mode f v xs) t in
+    let more = walked mode f v xs t′ in
+    let p : press mode (openWord w noTone) (keyOfLetter x) ≡ openWord v noTone =
     ap (λ (y : Letter). stateOf (roleDoes (roleOf mode (y .base)) (openWord w noTone) y)) (letter-of-key x (and-l (isSmall (x .base)) d c)) ∙
-    appended-so (roleOf mode (x .base)) (openWord w noTone) z (and-r (isSmall (x .base)) d c) in
+    leaves-appended (roleOf mode (x .base)) (openWord w noTone) z (and-r (isSmall (x .base)) d c) in
     record {
       to = more .to;
       pressed = ap (λ (s : State). pressing mode s (itemKeys xs)) p ∙ more .pressed;
-      caps = more .caps ∙ ap (λ (l : List Bool). l ++ itemCapitals xs) (capitals-append w (z ∷ [])) ∙ append-assoc (capitals w) (x .capital ∷ []) (itemCapitals xs);
+      caps = more .caps ∙ ap (λ (l : List Bool). l ++ itemCapitals xs) (capitals-appended (openWord w noTone) z) ∙ append-assoc (capitals w) (x .capital ∷ []) (itemCapitals xs);
       passes = more .passes;
     }
 walked mode f w (mark k ∷ xs) t =
@@ -106,5 +90,6 @@ bare-allowed mode f v [] t = tt
 bare-allowed mode f v (x ∷ w) t =
     let z = shaped plain x in
     let d = isAppended (outcomeOf (roleDoes (roleOf mode (x .base)) (openWord v noTone) z)) in
-    let (c, t′) = and-if (isSmall (x .base) && d) (walk mode f (v ++ (z ∷ [])) (map letter w)) t in
-    and-i (isKey mode (keyOfLetter x)) (all (isKey mode) (bareKeys w)) (letter-allowed mode x (and-l (isSmall (x .base)) d c)) (bare-allowed mode f (v ++ (z ∷ [])) w t′)
+    let u = append (openWord v noTone) z .letters in
+    let (c, t′) = and-if (isSmall (x .base) && d) (walk mode f u (map letter w)) t in
+    and-i (isKey mode (keyOfLetter x)) (all (isKey mode) (bareKeys w)) (letter-allowed mode x (and-l (isSmall (x .base)) d c)) (bare-allowed mode f u w t′)

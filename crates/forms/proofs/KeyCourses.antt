@@ -5,7 +5,7 @@ use Prim.Native.Nat.{ℕ}
 use lib.Dec.{eqb}
 use Rattle.rules.specs.Letters.{Letter, Letters, plain, noTone, telex, vni, same}
 use Rattle.rules.specs.TheWord.{outcomeOf, isAppended}
-use Rattle.rules.specs.KeyRoles.{isSmall, roleIn, telexRoles, vniRoles, role, shaped, Edit, nothing, off, change, shapeEdit, strokeEdit, roleDoes}
+use Rattle.rules.specs.KeyRoles.{isSmall, roleIn, telexRoles, vniRoles, role, shaped, append, Edit, nothing, off, change, shapeEdit, strokeEdit, roleDoes}
 use Rattle.rules.specs.Speller.{keyOfLetter, keysAfter}
 use Rattle.rules.specs.declared.Role.{Role}
 use Rattle.rules.specs.declared.Role.the-variants.{ToneRole, ShapeRole, StrokeRole, NoRole}
@@ -45,7 +45,7 @@ abbrev pub walk : ℕ → (Letters → Bool) → Letters → List Item → Bool
 walk mode f w [] = f w
 walk mode f w (letter x ∷ xs) =
     elim (isSmall (x .base) && isAppended (outcomeOf (roleDoes (roleOf mode (x .base)) (openWord w noTone) (shaped plain x)))) [
-      | true ↦ walk mode f (w ++ (shaped plain x ∷ [])) xs
+      | true ↦ walk mode f (append (openWord w noTone) (shaped plain x) .letters) xs
       | false ↦ false
     ]
 walk mode f w (mark k ∷ xs) =

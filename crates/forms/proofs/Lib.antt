@@ -26,4 +26,5 @@ pub mod Faults
 pub mod RoundTrip
 pub mod Spells
 pub mod AcceptedTexts
+pub mod Gained
 pub mod Uses

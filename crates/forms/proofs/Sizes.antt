@@ -1,4 +1,4 @@
--- The sizes on which two models agree: 4,200 valid letter forms, no two equal, none missing, and 18,852 syllables with their tones.
+-- The sizes on which two models agree: 4,203 valid letter forms, no two equal, none missing, and 18,870 syllables with their tones.
 use mathlib.Core.Path.{_≡_, refl}
 use mathlib.Core.Logic.{_↔_}
 use Prim.Native.Nat.{ℕ}
@@ -12,7 +12,7 @@ use Rattle.forms.proofs.Bridge.{passed}
 use Rattle.forms.proofs.EachValid.{complete}
 use Rattle.forms.proofs.Counted.{ascend, different, every-valid, retoned}
 
-pub letter-forms : length allForms ≡ 4200
+pub letter-forms : length allForms ≡ 4203
 unfolding allForms joins fit
 letter-forms = refl
 
@@ -26,7 +26,7 @@ all-valid = every-valid
 pub none-missing : (w : Letters) (t : ℕ) → verdict w t ≡ 0 → T (oneOf w allForms)
 none-missing = complete
 
-pub syllables : withTones allForms ≡ 18852
+pub syllables : withTones allForms ≡ 18870
 unfolding allForms joins fit fits final
 syllables = refl
 

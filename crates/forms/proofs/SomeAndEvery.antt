@@ -1,25 +1,12 @@
 -- Tests over a list: where some of it passes one test and every one of it another, one passes both.
-use mathlib.Core.Bool.{Bool, true, false, _&&_}
+use mathlib.Core.Bool.{Bool, true, _&&_}
 use mathlib.Core.List.{List, [], _∷_}
 use lib.Dec.{T}
 use lib.Ieee.Fits.{and-l, and-r}
 use Rattle.rules.specs.Letters.{Letters, someWord}
 use Rattle.rules.specs.TakingApart.{Row, someRow}
+use Rattle.rules.proofs.Bools.{either}
 use Rattle.forms.specs.Forms.{every}
-
-pub and-if : (b c : Bool) → T (elim b [ true ↦ c | false ↦ false ]) → T b × T c
-and-if true c t = (tt, t)
-
-pub either : {P : Type 0} (b c : Bool) → (T b → P) → (T c → P) → T (elim b [ true ↦ true | false ↦ c ]) → P
-either true c f g t = f tt
-either false c f g t = g t
-
-pub and-so : (b c : Bool) → T b → T c → T (elim b [ true ↦ c | false ↦ false ])
-and-so true c t u = u
-and-so false c t u = t
-
-pub or-so : (b c : Bool) → T b → T (elim b [ true ↦ true | false ↦ c ])
-or-so true c t = tt
 
 pub record Met (f g : Letters → Bool) : Type 0 where
   pub here : Letters

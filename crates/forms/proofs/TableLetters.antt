@@ -8,7 +8,8 @@ use lib.Ieee.Fits.{and-i, and-l, and-r}
 use Rattle.rules.specs.Letters.{Letters, same, oneOf}
 use Rattle.rules.specs.TakingApart.{initial, nucleus, final, initials, finals, rows, takes, stands, isThis, listed, verdict}
 use Rattle.forms.specs.Forms.{capitals, otherCases, casedAs, every}
-use Rattle.forms.proofs.SomeAndEvery.{and-if, meet, everyRow, meetRow}
+use Rattle.rules.proofs.Bools.{and-if}
+use Rattle.forms.proofs.SomeAndEvery.{meet, everyRow, meetRow}
 use Rattle.forms.proofs.Cases.{same-cased}
 use Rattle.forms.proofs.Bridge.{passed, parts}
 

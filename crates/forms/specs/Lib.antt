@@ -1,3 +1,4 @@
 pub mod Forms
 pub mod Sizes
 pub mod Spelling
+pub mod Gained

@@ -11,7 +11,7 @@ use Prim.Native.Char.{code}
 use Rattle.rules.specs.Letters.{Letters, named, word, is, same, isNil}
 use Rattle.rules.specs.TakingApart.{joins, plainU, iAndAnother}
 use Rattle.rules.specs.TheWord.{letter}
-use Rattle.parts.proofs.Bools.{eqb-case, only, never, and-false}
+use Rattle.rules.proofs.Bools.{eqb-case, only, never, and-false}
 
 pub not-one : (ns ms : List ℕ) → (length ns ≡ 1 → ⊥) → false ≡ joins (map letter ns) (map letter ms)
 unfolding joins

@@ -16,7 +16,7 @@ use Rattle.rules.specs.TonePlace.{orHere, lastShaped, byCount, orByCount, place
 use Rattle.rules.specs.declared.Place.the-variants.{At, Nowhere}
 use Rattle.parts.specs.Ends.{partsOf}
 use Rattle.parts.specs.declared.Parts.{Parts}
-use Rattle.parts.proofs.Bools.{pick}
+use Rattle.rules.proofs.Bools.{pick}
 use Rattle.rules.proofs.Wholes.{whole}
 use Rattle.parts.proofs.Splits.{nil-length, cut}
 

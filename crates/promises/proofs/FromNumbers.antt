@@ -1,10 +1,9 @@
--- An answer in numbers is of one answer only: what is said in the numbers of an act, of something written or of something granted is that answer.
+-- An answer in numbers is of one answer only: what is said in the numbers of what a key did, of something written or of something granted is that answer.
 use mathlib.Core.Path.{_≡_, refl, sym, ap, _∙_}
 use mathlib.Core.List.{List, [], _∷_}
 use Prim.Native.Nat.{ℕ, zero, suc}
 use native.Mathlib.Omega.{arith}
 use Rattle.rules.specs.AnswersInNumbers.{Says, refused, answered, outcomeNumbers, stepSays, writeSays, commitSays}
-use Rattle.rules.specs.declared.Act.{Act}
 use Rattle.rules.specs.declared.Act.the-variants.{Tone, Shape, Stroke, Clear}
 use Rattle.rules.specs.declared.Outcome.{Outcome}
 use Rattle.rules.specs.declared.Outcome.the-variants.{Acted, Undone, Appended}
@@ -42,9 +41,9 @@ abbrev values : Says → List ℕ
 values (answered ns) = ns
 values (refused n v) = []
 
-pub acted-as : (s : StepAnswer) (a : Act) → stepSays s ≡ answered (outcomeNumbers (Acted a)) → s ≡ Did (Acted a)
-acted-as (Did o) a e = ap (λ (x : Outcome). Did x) (sym (from-numbers o) ∙ ap (λ (x : Says). outcomeFrom (values x)) e ∙ from-numbers (Acted a))
-acted-as (Refused x) a e = let z : _≡_ {A = ℕ} 0 1 = cc in absurd (omega arith)
+pub did-as : (s : StepAnswer) (o : Outcome) → stepSays s ≡ answered (outcomeNumbers o) → s ≡ Did o
+did-as (Did x) o e = ap (λ (y : Outcome). Did y) (sym (from-numbers x) ∙ ap (λ (y : Says). outcomeFrom (values y)) e ∙ from-numbers o)
+did-as (Refused x) o e = let z : _≡_ {A = ℕ} 0 1 = cc in absurd (omega arith)
 
 pub wrote-as : (r : WriteAnswer) (n : ℕ) → writeSays r ≡ answered (n ∷ []) → r ≡ Wrote n
 wrote-as (Wrote m) n e = let f : m ≡ n = cc in ap (λ (k : ℕ). Wrote k) f

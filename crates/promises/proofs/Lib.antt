@@ -9,4 +9,5 @@ pub mod Committed
 pub mod Pressed
 pub mod Box
 pub mod Demands
+pub mod Appending
 pub mod Clauses

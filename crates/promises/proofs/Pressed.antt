@@ -1,16 +1,16 @@
 -- A key typed and the word shown, by the table: of a whole record, what `stepAndShow` gives is refused by the first row that holds of one call with a record, a key and an output, and else done.
 use mathlib.Core.Path.{_≡_, refl, sym, ap, ap₂, _∙_}
-use mathlib.Core.Bool.{Bool, true, false, not}
+use mathlib.Core.Bool.{Bool, true, false}
 use mathlib.Core.List.{List, [], _∷_}
 use mathlib.Core.Option.{Option, none, some}
 use Prim.Native.Nat.{ℕ}
 use native.Mathlib.Omega.{arith}
-use lib.Dec.{T, ltb}
+use lib.Dec.{ltb}
 use lib.ListN.{length}
 use Rattle.rules.specs.TheWord.{mostKeys, State, Typed, wordOf, atFront, holding, outcomeOf}
 use Rattle.rules.specs.KeyRoles.{keyDoes, type}
 use Rattle.rules.specs.CodePoints.{shown}
-use Rattle.rules.specs.Refusals.{Keys, tooManyKeys, notAllKeys, placeOfByte, outOfRange, table, refusal, NoneHolds, not-this}
+use Rattle.rules.specs.Refusals.{Keys, tooManyKeys, notAllKeys, placeOfByte, outOfRange, table, refusal}
 use Rattle.rules.specs.WhatComesBack as Rules
 use Rattle.rules.specs.WhatComesBack.{stepCall, writeOr, step, show, Written}
 use Rattle.rules.specs.declared.Word.{Word}
@@ -21,7 +21,7 @@ use Rattle.rules.proofs.Tests.{is-false}
 use Rattle.rules.proofs.Range.{in-range}
 use Rattle.rules.proofs.Records.{word-held}
 use Rattle.rules.proofs.Refused.{refusal-none}
-use Rattle.rules.proofs.StaysInRange.{Whole, state-fine, next, room-and-key, step-in-range}
+use Rattle.rules.proofs.StaysInRange.{Whole, state-fine, next, taken, step-in-range}
 use Rattle.press.specs.StepAndShow.{Shown, showOr, pressedOr, stepAndShow}
 use Rattle.press.specs.declared.ShownAnswer.the-variants.{Did, Refused}
 use Rattle.promises.specs.Box.{pressCall}
@@ -81,9 +81,6 @@ module _ (w : Word) (k : ℕ) (out : List ℕ) where
   unfolding stepAndShow
   by-step s e = ap₂ (λ (x : StepAnswer) (y : Word). pressedOr x w y out) (ap (λ (x : Step). x .answer) e) (ap (λ (x : Step). x .word) e)
 
-  range-of : NoneHolds (table (stepCall w k)) → T (not (outOfRange w))
-  range-of (not-this range more) = range
-
   put : (o : Option Refusal) →
       (let s = writeOr o text out in record { result = showOr (s .answer) (outcomeOf (keyDoes (wordOf w) k)) w (holding w after); output = s .output }) ≡ pressedBy o
   put none = refl
@@ -96,11 +93,10 @@ module _ (w : Word) (k : ℕ) (out : List ℕ) where
       go (some x) e = by-step (Rules.stepOr (some x) w k) (stepped (some x) e) ∙ sym (ap pressedBy (press-refused x e))
       go none e =
           let rows = refusal-none (stepCall w k) .0 e in
-          let range = range-of rows in
-          let (room, key) = room-and-key w k rows in
+          let a = taken w k rows in
           let s = stepped none e in
-          let new-range : outOfRange (holding w after) ≡ false = ap (λ (x : Step). outOfRange (x .word)) (sym s) ∙ is-false (outOfRange (step w k .word)) (step-in-range w k whole range .0) in
-          let fine = next (wordOf w) k key (state-fine w (in-range w range)) .fine .letters in
+          let new-range : outOfRange (holding w after) ≡ false = ap (λ (x : Step). outOfRange (x .word)) (sym s) ∙ is-false (outOfRange (step w k .word)) (step-in-range w k whole (a .range) .0) in
+          let fine = next (wordOf w) k (a .key) (state-fine w (in-range w (a .range))) .fine .letters in
           let state = ap (λ (z : Typed). z .state) (word-held w after fine) in
           by-step (Rules.stepOr none w k) s ∙
           ap (λ (x : Written). record { result = showOr (x .answer) (outcomeOf (keyDoes (wordOf w) k)) w (holding w after); output = x .output }) (shows (holding w after) new-range state) ∙

@@ -12,6 +12,7 @@ use Rattle.rules.specs.WhatComesBack.{Written, step}
 use Rattle.rules.specs.declared.Word.{Word}
 use Rattle.rules.specs.declared.Role.{Role}
 use Rattle.rules.specs.declared.Role.the-variants.{ToneRole, ShapeRole, StrokeRole, NoRole}
+use Rattle.rules.specs.declared.Outcome.the-variants.{Acted}
 use Rattle.rules.specs.declared.Step.{Step}
 use Rattle.rules.proofs.Tests.{is-false}
 use Rattle.rules.proofs.Commute.{Differ}
@@ -19,7 +20,7 @@ use Rattle.rules.proofs.StaysInRange.{Whole, step-in-range}
 use Rattle.rules.proofs.NotRefused.{shows, finds, judges, decides}
 use Rattle.rules.proofs.RecordOrders.{record-orders}
 use Rattle.rules.specs.AnswersInNumbers.{stepSays, writeSays, placeSays, verdictSays, decisionSays}
-use Rattle.promises.proofs.FromNumbers.{acted-as}
+use Rattle.promises.proofs.FromNumbers.{did-as}
 use Rattle.promises.specs.TwoOrders.{differ, OpenWithRoom, withKeys, FirstHalf}
 use Rattle.promises.proofs.AsDefined.{stepped, shown-answer, shown-output, placed, judged, decided}
 use Rattle.promises.proofs.Alike.{same-text, same-place, same-verdict, same-decision}
@@ -62,7 +63,7 @@ first-half w k m a b wk wm km mk o differing k-typed k-acted m-typed m-acted m-a
     let x : km ≡ step (step w k .word) m = stepped m-after ∙ ap (λ (s : Step). step (s .word) m) e in
     let y : mk ≡ step (step w m .word) k = stepped k-after ∙ ap (λ (s : Step). step (s .word) k) f in
     let same = record-orders w (whole o) (o .range) (o .room) k m (o .open-word) (families (role (w .mode) k) (role (w .mode) m) differing)
-    (sym (ap (λ (s : Step). s .answer) e) ∙ acted-as (wk .answer) a k-acted) (sym (ap (λ (s : Step). s .answer) f) ∙ acted-as (wm .answer) b m-acted) in
+    (sym (ap (λ (s : Step). s .answer) e) ∙ did-as (wk .answer) (Acted a) k-acted) (sym (ap (λ (s : Step). s .answer) f) ∙ did-as (wm .answer) (Acted b) m-acted) in
     let keys = ap (λ (s : Step). s .word .keys) x ∙ ap (λ (z : Word). z .keys) (same .equal) in
     let words : km .word ≡ withKeys (mk .word) (km .word .keys) = ap (λ (s : Step). s .word) x ∙ same .equal ∙ (λ i. withKeys (sym y i .word) (sym keys i)) in
     let km-range : outOfRange (km .word) ≡ false = ap (λ (s : Step). outOfRange (s .word)) x ∙ in-range-after w o k m in

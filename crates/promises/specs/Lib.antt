@@ -7,3 +7,4 @@ pub mod EachSyllable
 pub mod RoundTrip
 pub mod Committed
 pub mod Demands
+pub mod Appending

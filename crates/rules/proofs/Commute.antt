@@ -117,7 +117,7 @@ same-pairHere c [] = same-none
 same-pairHere c (z ∷ zs) = same-none
 
 same-horned : (c : Bool) (xs : Letters) → Same c (horned (dee plain c ∷ xs)) (horned (dee stroke c ∷ xs))
-same-horned c xs = same-or (same-or (same-pairHere c xs) (same-behind c (pair false xs))) (same-or same-none (same-behind c (single false xs)))
+same-horned c xs = same-or same-none (same-or (same-or (same-pairHere c xs) (same-behind c (pair false xs))) (same-or same-none (same-behind c (single false xs))))
 
 same-breved : (c : Bool) (xs : Letters) → Same c (breved (dee plain c ∷ xs)) (breved (dee stroke c ∷ xs))
 same-breved c xs = same-or (same-behind c (breved xs)) same-none

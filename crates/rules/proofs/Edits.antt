@@ -9,7 +9,7 @@ use lib.ListN.{length}
 use lib.Ieee.Fits.{and-l, and-r}
 use Rattle.rules.specs.Letters.{Letter, Letters, plain, circumflex, breve, horn, stroke, characters, among, named, is, isNil, carries}
 use Rattle.rules.specs.TakingApart.{vowel, isKind, frontIf, front, pastIf, past, final, initial, nucleus, leftovers, joins, fit, someAgrees, admitted}
-use Rattle.rules.specs.KeyRoles.{shaped, Found, nowhere, already, fresh, behind, orElse, ifSo, target, here, last, own, circumflexOn, isAEO, circumflexed, isA, breved, isQ, pairHere, pair, single, horned, Edit, nothing, off, change, onlyIf, asked, first, shapeEdit, strokeEdit}
+use Rattle.rules.specs.KeyRoles.{shaped, Found, nowhere, already, fresh, behind, orElse, ifSo, target, here, last, own, circumflexOn, isAEO, circumflexed, isA, breved, isQ, pairHere, pair, single, isO, hornsOAlone, oAlone, horned, hornOnU, hornOnUIf, Edit, nothing, off, change, onlyIf, asked, first, shapeEdit, strokeEdit}
 use Rattle.rules.specs.declared.ShapeKey.{ShapeKey}
 use Rattle.rules.specs.declared.ShapeKey.the-variants.{CircumflexOn, Circumflex, Breve, Horn, HornBreve}
 use Rattle.rules.specs.declared.Act.{Act}
@@ -53,6 +53,19 @@ front-alike (moved {x = x} sh t h r) = frontIf-vowel (vowel (x .base)) _ _ _ _ t
 pub final-alike : {v w : Letters} → Alike vowel v w → final v ≡ final w
 unfolding final
 final-alike r = front-alike (past-alike true (past-alike false r))
+
+-- the second horn that an appended letter puts on a u
+alike-hornOnU : (w : Letters) → Alike vowel w (hornOnU w)
+alike-hornOnU [] = end
+alike-hornOnU (x ∷ xs) = go (eqb (x .base) (code "u")) (λ t. t) (alike-hornOnU xs)
+  where
+    go : (b : Bool) → (T b → T (eqb (x .base) (code "u"))) → Alike vowel xs (hornOnU xs) → Alike vowel (x ∷ xs) (elim b [ true ↦ shaped horn x ∷ xs | false ↦ x ∷ hornOnU xs ])
+    go true t r = moved horn (of-elem vowel (x .base) (code "u" ∷ []) tt (t tt)) (of-elem (carries horn) (x .base) (code "u" ∷ []) tt (t tt)) (alike vowel xs)
+    go false t r = kept r
+
+pub alike-second : (b : Bool) (w : Letters) → Alike vowel w (hornOnUIf b w)
+alike-second true w = alike-hornOnU w
+alike-second false w = alike vowel w
 
 -- what a search finds is alike
 data Keeps (v : Letters) : Found → Type 0 where
@@ -114,8 +127,11 @@ keeps-pair : (afterQ : Bool) (w : Letters) → Keeps w (pair afterQ w)
 keeps-pair afterQ [] = found-none
 keeps-pair afterQ (x ∷ xs) = keeps-or (keeps-pairHere afterQ x xs) (keeps-behind (keeps-pair (isQ x) xs))
 
+keeps-oAlone : (w : Letters) → Keeps w (oAlone w)
+keeps-oAlone w = keeps-if (hornsOAlone w) (λ _. keeps-last isO horn (λ b t. of-elem (suits horn) b (characters "o") tt t) w)
+
 keeps-horned : (w : Letters) → Keeps w (horned w)
-keeps-horned w = keeps-or (keeps-pair false w) (keeps-single false w)
+keeps-horned w = keeps-or (keeps-oAlone w) (keeps-or (keeps-pair false w) (keeps-single false w))
 
 keeps-breved : (w : Letters) → Keeps w (breved w)
 keeps-breved w = keeps-last isA breve (λ b t. of-elem (suits breve) b (characters "a") tt t) w

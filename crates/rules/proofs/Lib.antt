@@ -1,6 +1,9 @@
 pub mod Apprentices
 pub mod Cards
+pub mod Bools
 pub mod Tests
+pub mod Words
+pub mod Appends
 pub mod Edits
 pub mod Commute
 pub mod Orders

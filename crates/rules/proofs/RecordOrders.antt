@@ -1,8 +1,7 @@
 -- Demand 3, first half, of records: any record in range that is open and has room for two more keys, and two keys of different families that would each act alone.
-use mathlib.Core.Path.{_≡_, refl, sym, ap, subst, _∙_}
+use mathlib.Core.Path.{_≡_, sym, ap, subst, _∙_}
 use mathlib.Core.Bool.{Bool, true, false, not}
 use mathlib.Core.List.{List, [], _∷_, _++_}
-use mathlib.Core.Option.{Option, none, some}
 use Prim.Native.Nat.{ℕ, _+_, _≤_}
 use native.Mathlib.Omega.{arith}
 use lib.Dec.{T}
@@ -10,19 +9,17 @@ use lib.ListN.{length, take, length-append}
 use lib.Seq.{length-take-le}
 use Rattle.rules.specs.TheWord.{State, Typed, Done, acted, undone, appended, stateOf, outcomeOf, mostKeys, wordOf, atFront, holding}
 use Rattle.rules.specs.KeyRoles.{isKey, role, letterOfKey, unlessClosed, keyDoes, type}
-use Rattle.rules.specs.Refusals.{outOfRange, refusal}
-use Rattle.rules.specs.WhatComesBack.{stepCall, stepOr, step}
+use Rattle.rules.specs.Refusals.{outOfRange}
+use Rattle.rules.specs.WhatComesBack.{step}
 use Rattle.rules.specs.declared.Word.{Word}
 use Rattle.rules.specs.declared.Act.{Act}
-use Rattle.rules.specs.declared.Refusal.{Refusal}
 use Rattle.rules.specs.declared.Outcome.the-variants.{Acted}
 use Rattle.rules.specs.declared.Step.{Step}
 use Rattle.rules.specs.declared.StepAnswer.the-variants.{Did}
 use Rattle.rules.proofs.Commute.{Differ, acts, keeps-length}
 use Rattle.rules.proofs.Orders.{withKeys, orders}
 use Rattle.rules.proofs.Range.{in-range}
-use Rattle.rules.proofs.Refused.{refusal-none}
-use Rattle.rules.proofs.StaysInRange.{Whole, state-fine, next, room-and-key, step-in-range}
+use Rattle.rules.proofs.StaysInRange.{Whole, state-fine, next, step-in-range, taken-by}
 use Rattle.rules.proofs.Records.{withArrays, word-held, held-twice, accepted}
 
 -- the record with other keys in its array
@@ -43,12 +40,10 @@ acted-of (undone s) e = let z : _≡_ {A = ℕ} 0 1 = cc in absurd (omega arith)
 acted-of (appended s) e = let z : _≡_ {A = ℕ} 0 1 = cc in absurd (omega arith)
 
 did : (w : Word) (k : ℕ) {a : Act} → step w k .answer ≡ Did (Acted a) → T (isKey (w .mode) k) × (keyDoes (wordOf w) k ≡ acted a (stateOf (keyDoes (wordOf w) k)))
-unfolding step
-did w k {a} h = go (refusal (stepCall w k)) refl h
-  where
-    go : (o : Option Refusal) → refusal (stepCall w k) ≡ o → stepOr o w k .answer ≡ Did (Acted a) → T (isKey (w .mode) k) × (keyDoes (wordOf w) k ≡ acted a (stateOf (keyDoes (wordOf w) k)))
-    go none e h = (room-and-key w k (refusal-none (stepCall w k) .0 e) .1, acted-of (keyDoes (wordOf w) k) (cc))
-    go (some x) e h = let z : _≡_ {A = ℕ} 0 1 = cc in absurd (omega arith)
+did w k {a} h =
+    let t = taken-by w k (Acted a) h in
+    let e : Did (outcomeOf (keyDoes (wordOf w) k)) ≡ Did (Acted a) = sym (ap (λ (x : Step). x .answer) (accepted w k (t .range) (t .room) (t .key))) ∙ h in
+    (t .key, acted-of (keyDoes (wordOf w) k) (cc))
 
 -- a key that acts keeps the number of letters
 acting-length : (z : Typed) (k : ℕ) {a : Act} {s : State} → keyDoes z k ≡ acted a s → length (z .state .letters) ≡ length (s .letters)

@@ -11,18 +11,19 @@ use lib.Seq.{take-at, length-take-le}
 use lib.Ieee.Fits.{and-i, and-l, and-r}
 use Rattle.rules.specs.Letters.{Letter, noTone, dot, telex, vni}
 use Rattle.rules.specs.TheWord.{State, Typed, Done, acted, undone, appended, stateOf, outcomeOf, isActed, isUndone, isAppended, oneMore, counted, mostKeys, letter, number, wordOf, atFront, holding}
-use Rattle.rules.specs.KeyRoles.{isKey, letterOfKey, lower, roleIn, telexRoles, vniRoles, role, append, undo, withLetters, withTone, undoIf, actIf, toneGoes, Edit, editDoes, roleDoes, unlessClosed, keyDoes}
+use Rattle.rules.specs.KeyRoles.{isKey, letterOfKey, lower, roleIn, telexRoles, vniRoles, role, takesSecondHorn, append, close, undo, withLetters, withTone, undoIf, actIf, toneGoes, Edit, editDoes, roleDoes, unlessClosed, keyDoes}
 use Rattle.rules.specs.Refusals.{all, outOfRange, table, refusal, NoneHolds, not-this}
 use Rattle.rules.specs.WhatComesBack.{stepCall, stepOr, step}
 use Rattle.rules.specs.declared.Word.{Word}
 use Rattle.rules.specs.declared.Outcome.{Outcome}
 use Rattle.rules.specs.declared.Outcome.the-variants.{Acted, Undone, Appended}
+use Rattle.rules.specs.declared.StepAnswer.the-variants.{Did}
 use Rattle.rules.specs.declared.Refusal.{Refusal}
 use Rattle.rules.specs.declared.Act.{Act}
 use Rattle.rules.specs.declared.Role.{Role}
 use Rattle.rules.specs.declared.Role.the-variants.{ToneRole, ShapeRole, StrokeRole, NoRole}
 use Rattle.rules.specs.declared.ToneKey.the-variants.{SetTone, ClearTone}
-use Rattle.rules.proofs.Edits.{Good, good-none, good-off, good, good-shape, good-stroke, length-alike}
+use Rattle.rules.proofs.Edits.{Good, good-none, good-off, good, good-shape, good-stroke, length-alike, alike-second}
 use Rattle.rules.specs.LettersOfAMode.{Fine, AllFine}
 use Rattle.rules.proofs.Numbers.{NumbersInRange, numbers-in-range, fine-letters, fine-alike, fine-append, fine-key}
 use Rattle.rules.proofs.Range.{InRange, in-range, range-in, not-not}
@@ -39,14 +40,24 @@ pub record Next (mode : ℕ) (s : State) (d : Done) : Type 0 where
   pub longer : length (stateOf d .letters) ≤ length (s .letters) + 1
   pub no-shorter : length (s .letters) ≤ length (stateOf d .letters)
 
+-- appending: one letter more
+append-longer : (s : State) (k : Letter) → length (append s k .letters) ≡ length (s .letters) + 1
+append-longer s k = simp length-append (omega (arith, length-alike (alike-second (takesSecondHorn s k) (s .letters))))
+
+append-fine : {mode : ℕ} (s : State) (k : Letter) → StateFine mode s → Fine mode k → StateFine mode (append s k)
+append-fine s k h f = record { letters = fine-append (fine-alike (alike-second (takesSecondHorn s k) (s .letters)) (h .letters)) f; tone = h .tone }
+
 next-append : {mode : ℕ} {s : State} {k : Letter} → StateFine mode s → Fine mode k → Next mode s (appended (append s k))
-next-append {s = s} {k = k} h f =
-    record { fine = record { letters = fine-append (h .letters) f; tone = h .tone }; longer = simp length-append (omega arith); no-shorter = simp length-append (omega arith) }
+next-append {s = s} {k = k} h f = record { fine = append-fine s k h f; longer = omega (arith, append-longer s k); no-shorter = omega (arith, append-longer s k) }
 
 -- an undo of letters of the same number, with a tone that exists
 next-undo : {mode : ℕ} (s u : State) (k : Letter) → StateFine mode u → length (s .letters) ≡ length (u .letters) → Fine mode k → Next mode s (undone (undo u k))
 next-undo s u k h e f =
-    record { fine = record { letters = fine-append (h .letters) f; tone = h .tone }; longer = simp length-append (omega arith); no-shorter = simp length-append (omega arith) }
+    record {
+      fine = append-fine (close u) k (record { letters = h .letters; tone = h .tone }) f;
+      longer = omega (arith, append-longer (close u) k);
+      no-shorter = omega (arith, append-longer (close u) k);
+    }
 
 next-act : {mode : ℕ} (s u : State) {a : Act} → StateFine mode u → length (s .letters) ≡ length (u .letters) → Next mode s (acted a u)
 next-act s u h e = record { fine = h; longer = omega arith; no-shorter = omega arith }
@@ -85,13 +96,17 @@ exists-in (x ∷ xs) b t = go (eqb b (x .0)) (roleIn xs b) (and-l (existing (x .
     go true r p q = p
     go false r p q = q
 
-role-exists : (mode k : ℕ) → T (existing (role mode k))
-role-exists mode k = go (eqb mode telex) (eqb mode vni) (roleIn telexRoles (lower k)) (roleIn vniRoles (lower k)) (exists-in telexRoles (lower k) tt) (exists-in vniRoles (lower k) tt)
+-- a role is one of the two tables', or none
+pub of-role : (f : Role → Bool) (mode k : ℕ) → T (f (roleIn telexRoles (lower k))) → T (f (roleIn vniRoles (lower k))) → T (f NoRole) → T (f (role mode k))
+of-role f mode k t v n = go (eqb mode telex) (eqb mode vni)
   where
-    go : (c d : Bool) (r q : Role) → T (existing r) → T (existing q) → T (existing (elim c [ true ↦ r | false ↦ elim d [ true ↦ q | false ↦ NoRole ] ]))
-    go true d r q t u = t
-    go false true r q t u = u
-    go false false r q t u = tt
+    go : (c d : Bool) → T (f (elim c [ true ↦ roleIn telexRoles (lower k) | false ↦ elim d [ true ↦ roleIn vniRoles (lower k) | false ↦ NoRole ] ]))
+    go true d = t
+    go false true = v
+    go false false = n
+
+role-exists : (mode k : ℕ) → T (existing (role mode k))
+role-exists mode k = of-role existing mode k (exists-in telexRoles (lower k) tt) (exists-in vniRoles (lower k) tt) tt
 
 next-role : {mode : ℕ} (r : Role) (s : State) (k : Letter) → T (existing r) → StateFine mode s → Fine mode k → Next mode s (roleDoes r s k)
 next-role (ToneRole (SetTone t)) s k e h f =
@@ -180,10 +195,23 @@ module _ (w : Word) (k : ℕ) (whole : Whole w) (r : InRange w) (room : w .typed
         keys = length-front (wordOf w .keys ++ (k ∷ [])) (w .keys) (omega (arith, keys-left, whole .keys)) ∙ whole .keys;
       }
 
--- a step that is not refused finds room for the key, and the key allowed
-pub room-and-key : (w : Word) (k : ℕ) → NoneHolds (table (stepCall w k)) → (w .typed + 1 ≤ mostKeys) × T (isKey (w .mode) k)
-room-and-key w k (not-this range (not-this mode (not-this full (not-this text (not-this byte more))))) =
-    (nltb→le mostKeys (w .typed + 1) full, and-l (isKey (w .mode) k) true (not-not (isKey (w .mode) k && true) byte))
+-- a step that is not refused finds the record in range, room for the key, and the key allowed
+pub record Taken (w : Word) (k : ℕ) : Type 0 where
+  pub range : T (not (outOfRange w))
+  pub room : w .typed + 1 ≤ mostKeys
+  pub key : T (isKey (w .mode) k)
+
+pub taken : (w : Word) (k : ℕ) → NoneHolds (table (stepCall w k)) → Taken w k
+taken w k (not-this range (not-this mode (not-this full (not-this text (not-this byte more))))) =
+    record { range = range; room = nltb→le mostKeys (w .typed + 1) full; key = and-l (isKey (w .mode) k) true (not-not (isKey (w .mode) k && true) byte) }
+
+pub taken-by : (w : Word) (k : ℕ) (o : Outcome) → step w k .answer ≡ Did o → Taken w k
+unfolding step
+taken-by w k o e = go (refusal (stepCall w k)) refl e
+  where
+    go : (f : Option Refusal) → refusal (stepCall w k) ≡ f → stepOr f w k .answer ≡ Did o → Taken w k
+    go (some x) r e = let z : _≡_ {A = ℕ} 0 1 = cc in absurd (omega arith)
+    go none r e = taken w k (refusal-none (stepCall w k) .0 r)
 
 pub step-in-range : (w : Word) (k : ℕ) → Whole w → T (not (outOfRange w)) → T (not (outOfRange (step w k .word))) × Whole (step w k .word)
 unfolding step
@@ -192,5 +220,5 @@ step-in-range w k whole t = go (refusal (stepCall w k)) refl
     go : (o : Option Refusal) → refusal (stepCall w k) ≡ o → T (not (outOfRange (stepOr o w k .word))) × Whole (stepOr o w k .word)
     go (some x) e = (t, whole)
     go none e =
-        let (room, key) = room-and-key w k (refusal-none (stepCall w k) .0 e) in
-        (range-in (after w k) (after-in-range w k whole (in-range w t) room key), after-whole w k whole (in-range w t) room key)
+        let a = taken w k (refusal-none (stepCall w k) .0 e) in
+        (range-in (after w k) (after-in-range w k whole (in-range w t) (a .room) (a .key)), after-whole w k whole (in-range w t) (a .room) (a .key))

@@ -114,6 +114,21 @@ lines =
     -- a closed word is kept as it stands, also where it is no syllable and carries a mark
     answers "T reserve" "rẻve rẻve 3 3 1 K" ∷
     answers "T tomorrow" "tômrow tômrow 3 0 - K" ∷
+    -- W-201, the nucleus uơ
+    answers "T thuowr" "thuở thuở 0 3 3 K" ∷
+    answers "V thuo73" "thuở thuở 0 3 3 K" ∷
+    answers "T huow" "huơ huơ 0 0 - K" ∷
+    answers "T huoww" "huow huow 5 0 - K" ∷
+    answers "T huowng" "hương hương 0 0 - K" ∷
+    answers "T HUOWNG" "HƯƠNG HƯƠNG 0 0 - K" ∷
+    answers "T huowu" "hươu hươu 0 0 - K" ∷
+    answers "T huowi" "hươi hươi 0 0 - K" ∷
+    answers "T huowh" "huơh huowh 5 0 - R" ∷
+    answers "T huoow" "huơ huơ 0 0 - K" ∷
+    answers "T huwow" "hươ huwow 6 0 - R" ∷
+    answers "T uow" "ươ uow 6 0 - R" ∷
+    answers "T luow" "lươ luow 6 0 - R" ∷
+    answers "V huo7c1" "hước hước 0 1 2 K" ∷
     []
 
 -- 14.4 The worked case as one input and one output, the line of names in front.
@@ -139,6 +154,11 @@ spellLines =
     answers "V a1" "! 6 1" ∷
     answers "t a" "! 1 0" ∷
     answers "T aaaaaaaaaaaaaaaaaaaaaaaaaaaaaaaaaaaaaaaaaaaaaaaaaaaaaaaaaaaaaaaaaaaaaaaaaaaaaaaaaaaaaaaaaaaaaaaa1" "! 2 96" ∷
+    -- W-201
+    answers "T thuở" "thuowr" ∷
+    answers "V huơ" "huo7" ∷
+    answers "T huơn" "! 7 6" ∷
+    answers "T luơ" "! 7 6" ∷
     []
 
 abbrev answersSo : (List ℕ → List ℕ) → Line → Bool

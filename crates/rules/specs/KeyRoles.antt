@@ -4,7 +4,7 @@ use mathlib.Core.List.{List, [], _∷_, _++_}
 use Prim.Native.Nat.{ℕ, _+_}
 use Prim.Native.Char.{code}
 use lib.Dec.{eqb, leb}
-use Rattle.rules.specs.Letters.{Letter, Letters, plain, circumflex, breve, horn, stroke, noTone, acute, grave, hook, tilde, dot, telex, vni, among, named, is, isNil}
+use Rattle.rules.specs.Letters.{Letter, Letters, plain, circumflex, breve, horn, stroke, noTone, acute, grave, hook, tilde, dot, telex, vni, among, words, oneOf, named, is, isNil}
 use Rattle.rules.specs.TakingApart.{admitted, final, fits}
 use Rattle.rules.specs.TheWord.{State, Typed, Done, acted, undone, appended, counted}
 use Rattle.rules.specs.declared.Role.{Role}
@@ -66,10 +66,29 @@ vniRoles =
 abbrev pub role : ℕ → ℕ → Role
 role mode k = elim (eqb mode telex) [ true ↦ roleIn telexRoles (lower k) | false ↦ elim (eqb mode vni) [ true ↦ roleIn vniRoles (lower k) | false ↦ NoRole ] ]
 
+-- 6.10 A letter that is put into another shape keeps its base and its case.
+abbrev pub shaped : ℕ → Letter → Letter
+shaped sh x = record { base = x .base; shape = sh; capital = x .capital }
+
 -- 6.6 An appended key is one more letter at the end. Letters and shapes before it and the number of the tone stay as
--- they are.
+-- they are, but in one case: an i, u, c, m, n, p or t, small or capital, that is appended to an open word huơ, khuơ
+-- or thuơ puts the horn on the u too.
+abbrev pub awaitsSecondHorn : Letters → Bool
+awaitsSecondHorn w = oneOf w (words "huơ khuơ thuơ")
+
+abbrev pub takesSecondHorn : State → Letter → Bool
+takesSecondHorn s k = not (s .closed) && (awaitsSecondHorn (s .letters) && among (k .base) "iucmnpt")
+
+abbrev pub hornOnU : Letters → Letters
+hornOnU [] = []
+hornOnU (x ∷ xs) = elim (eqb (x .base) (code "u")) [ true ↦ shaped horn x ∷ xs | false ↦ x ∷ hornOnU xs ]
+
+abbrev pub hornOnUIf : Bool → Letters → Letters
+hornOnUIf true w = hornOnU w
+hornOnUIf false w = w
+
 abbrev pub append : State → Letter → State
-append s k = record { letters = s .letters ++ (k ∷ []); tone = s .tone; closed = s .closed }
+append s k = record { letters = hornOnUIf (takesSecondHorn s k) (s .letters) ++ (k ∷ []); tone = s .tone; closed = s .closed }
 
 -- 6.7 An undo takes off the tone or the shape that its key stands for. The key then becomes a plain letter at the
 -- end, and the word is closed.
@@ -83,7 +102,7 @@ abbrev pub withTone : State → ℕ → State
 withTone s t = record { letters = s .letters; tone = t; closed = s .closed }
 
 abbrev pub undo : State → Letter → State
-undo s k = close (append s k)
+undo s k = append (close s) k
 
 -- 6.8 A tone key undoes where the word has its tone. Else, where the letters are admitted and its tone fits their
 -- final, it sets the tone, in place of any other. Else it is appended.
@@ -102,10 +121,6 @@ abbrev pub toneDoes : ToneKey → State → Letter → Done
 toneDoes (SetTone t) s k = undoIf (eqb (s .tone) t) (undo (withTone s noTone) k) (actIf (toneGoes t (s .letters)) (Tone t) (withTone s t) (append s k))
 -- 6.9 A clear key acts where the tone is not 0, and makes it 0. Where it is 0 the key is appended.
 toneDoes ClearTone s k = actIf (not (eqb (s .tone) noTone)) Clear (withTone s noTone) (append s k)
-
--- 6.10 A letter that is put into another shape keeps its base and its case.
-abbrev pub shaped : ℕ → Letter → Letter
-shaped sh x = record { base = x .base; shape = sh; capital = x .capital }
 
 -- 6.11 A shape key looks for its target among all letters of the word, by their bases and in any shape. It finds
 -- none; or one that has the shape, with the letters once it is off; or another, with the letters once it is on, in
@@ -160,6 +175,16 @@ isA x = among x "a"
 abbrev pub breved : Letters → Found
 breved w = last isA breve w
 
+-- 6.21 Where the word is h, kh or th, a plain u and an o in any shape, and no more, a horn key aims at this o alone.
+abbrev pub isO : ℕ → Bool
+isO x = among x "o"
+
+abbrev pub hornsOAlone : Letters → Bool
+hornsOAlone w = oneOf w (words "huo khuo thuo huô khuô thuô huơ khuơ thuơ")
+
+abbrev pub oAlone : Letters → Found
+oAlone w = ifSo (hornsOAlone w) (last isO horn w)
+
 -- 6.14 A horn key aims at a pair, the first u with an o directly after it and no q directly before it; the horn goes
 -- on both.
 abbrev pub isQ : Letter → Bool
@@ -187,7 +212,7 @@ single afterQ [] = nowhere
 single afterQ (x ∷ xs) = orElse (ifSo (isSingle afterQ (x .base)) (here horn x xs)) (behind x (single (isQ x) xs))
 
 abbrev pub horned : Letters → Found
-horned w = orElse (pair false w) (single false w)
+horned w = orElse (oAlone w) (orElse (pair false w) (single false w))
 
 -- 6.16 A shape key without a target is appended. One whose target has the shape undoes it; of a pair both letters
 -- must have it, and both lose it. Else it acts where all letters of the word, with the new shape on the whole target,

@@ -16,3 +16,4 @@ pub mod SpellProgram
 pub mod Cards
 pub mod Apprentices
 pub mod HandedBack
+pub mod Appending

@@ -107,7 +107,7 @@ fit ini v =
 abbrev pub finals : List Letters
 finals = [] ∷ words "c ch m n ng nh p t"
 
--- 7.11 There are 54 nuclei, in eight rows; a row has the finals that its nuclei take, and says whether it is open.
+-- 7.11 There are 55 nuclei, in eight rows; a row has the finals that its nuclei take, and says whether it is open.
 pub record Row : Type 0 where
   pub nuclei : List Letters
   pub ends : List Letters
@@ -125,7 +125,7 @@ rows =
     row "ơ" "m n p t" true ∷
     row "y uy" "ch n nh p t" true ∷
     row "uyê" "n t" false ∷
-    row "ai ao au ay âu ây eo êu ia iu oi ôi ơi ua ui ưa ưi ưu iêu yêu oai oay oeo uây uôi uya ươi ươu uyu uêu oao" "" true ∷
+    row "ai ao au ay âu ây eo êu ia iu oi ôi ơi ua ui ưa ưi ưu iêu yêu oai oay oeo uây uôi uya ươi ươu uyu uêu oao uơ" "" true ∷
     []
 
 -- 7.12 A nucleus takes the finals of its row. It takes an empty final where its row is open.
@@ -137,14 +137,16 @@ abbrev pub takes : Letters → Row → Letters → Letters → Bool
 takes ini r z fin = inRow r fin || (same ini (word "gi") && (same z (word "ê") && same fin (word "ng")))
 
 -- 7.14 The nuclei yê and yêu stand in a word without an initial or after qu, and after no other initial. After qu a
--- nucleus of two letters or more may not begin with an o, in whatever shape.
+-- nucleus of two letters or more may not begin with an o, in whatever shape. The nucleus uơ stands after h, kh and th
+-- alone.
 abbrev pub twoOrMore : Letters → Bool
 twoOrMore [] = false
 twoOrMore (x ∷ xs) = not (isNil xs)
 
 abbrev pub stands : Letters → Letters → Bool
 stands ini z =
-    implies (oneOf z (words "yê yêu")) (isNil ini || same ini (word "qu")) && not (same ini (word "qu") && (twoOrMore z && eqb (firstBase z) (code "o")))
+    implies (oneOf z (words "yê yêu")) (isNil ini || same ini (word "qu")) &&
+    (not (same ini (word "qu") && (twoOrMore z && eqb (firstBase z) (code "o"))) && implies (same z (word "uơ")) (oneOf ini (words "h kh th")))
 
 -- 7.15 A question to the table is put to every nucleus of every row, and one yes is enough.
 abbrev pub someRow : (Row → Letters → Bool) → List Row → Bool

@@ -1,23 +1,25 @@
 -- The places that the targets are found at, in the front part of an array: they are those of the rules, and lie within the word.
 use mathlib.Core.Path.{_≡_, sym, ap, subst, _∙_}
-use mathlib.Core.Bool.{Bool, false}
+use mathlib.Core.Bool.{Bool, true, false}
 use mathlib.Core.List.{List, map}
 use Prim.Native.Nat.{ℕ, _+_, _-_, _≤_, _<_}
 use native.Mathlib.Omega.{arith}
 use lib.Dec.{lit<}
 use lib.ListN.{length, take, drop, length-map, length-take}
+use lib.Seq.{length-take-le}
 use Rattle.rules.specs.Letters.{Letters, horn}
 use Rattle.rules.specs.TheWord.{letter}
-use Rattle.rules.specs.KeyRoles.{Found, asked, last, horned}
+use Rattle.rules.specs.KeyRoles.{Found, asked, last, hornsOAlone, horned}
 use Rattle.rules.specs.declared.Place.{Place}
 use Rattle.rules.specs.declared.Place.the-variants.{At, Nowhere}
 use Rattle.targets.specs.Places.{lastPlace, pairPlace, singlePlace}
 use Rattle.targets.specs.Aims.{oneAt, pairAt}
-use Rattle.targets.proofs.Finds.{last-is, horned-pair, horned-single}
+use Rattle.targets.proofs.Finds.{last-is, horned-alone, horned-pair, horned-single}
+use Rattle.targets.proofs.Waits.{o-there}
 use Rattle.targets.proofs.Within.{last-within, single-within, pair-within}
 use Rattle.step.specs.declared.Edit.{Edit}
 use Rattle.step.specs.LentLetters.{LettersInFront, LetterThere, Edits}
-use Rattle.step.proofs.Arrays.{is-front}
+use Rattle.step.proofs.Arrays.{is-front, within}
 
 abbrev part : List ℕ → ℕ → Letters
 part l n = map letter (take (n - 0) (drop 0 l))
@@ -43,20 +45,34 @@ module _ (want : ℕ → Bool) (l : List ℕ) (n kind : ℕ) where
   last-aimed g k e = record { given = g; inside = omega (arith, last-within want (front l n) (in-front e), count-of l n); shape = k }
 
 module _ (l : List ℕ) (n : ℕ) where
+  alone-in-front : {b : Bool} → hornsOAlone (part l n) ≡ b → hornsOAlone (front l n) ≡ b
+  alone-in-front e = ap hornsOAlone (is-front l n) ∙ e
+
   pair-in-front : {p : Place} → pairPlace false (part l n) ≡ p → pairPlace false (front l n) ≡ p
   pair-in-front e = ap (pairPlace false) (is-front l n) ∙ e
 
   single-in-front : {p : Place} → singlePlace false (part l n) ≡ p → singlePlace false (front l n) ≡ p
   single-in-front e = ap (singlePlace false) (is-front l n) ∙ e
 
-  pub horn-pair : {i : ℕ} → pairPlace false (part l n) ≡ At i → horned (front l n) ≡ pairAt (At i) (front l n)
-  horn-pair e = horned-pair (front l n) (pair-in-front e)
+  pub alone-inside : hornsOAlone (part l n) ≡ true → 1 ≤ n
+  alone-inside e = omega (arith, o-there (front l n) (alone-in-front e), count-of l n)
+
+  pub horn-alone : LettersInFront l n → hornsOAlone (part l n) ≡ true → horned (front l n) ≡ oneAt horn (At (n - 1)) (front l n)
+  horn-alone g e =
+      let k : length (front l n) ≡ n = length-map (take n l) letter ∙ length-take-le n l (within l n g) in
+      horned-alone (front l n) (n - 1) (alone-in-front e) (omega (arith, k, alone-inside e))
+
+  pub alone-aimed : LettersInFront l n → hornsOAlone (part l n) ≡ true → LetterThere l n (n - 1) horn
+  alone-aimed g e = record { given = g; inside = omega (arith, alone-inside e); shape = lit< tt }
+
+  pub horn-pair : {i : ℕ} → hornsOAlone (part l n) ≡ false → pairPlace false (part l n) ≡ At i → horned (front l n) ≡ pairAt (At i) (front l n)
+  horn-pair a e = horned-pair (front l n) (alone-in-front a) (pair-in-front e)
 
   pub pair-aimed : {i : ℕ} → LettersInFront l n → pairPlace false (part l n) ≡ At i → LetterThere l n (i + 1) horn
   pair-aimed {i} g e = record { given = g; inside = omega (arith, pair-within false (front l n) (pair-in-front e), count-of l n); shape = lit< tt }
 
-  pub horn-single : {p : Place} → pairPlace false (part l n) ≡ Nowhere → singlePlace false (part l n) ≡ p → horned (front l n) ≡ oneAt horn p (front l n)
-  horn-single e f = horned-single (front l n) (pair-in-front e) (single-in-front f)
+  pub horn-single : {p : Place} → hornsOAlone (part l n) ≡ false → pairPlace false (part l n) ≡ Nowhere → singlePlace false (part l n) ≡ p → horned (front l n) ≡ oneAt horn p (front l n)
+  horn-single a e f = horned-single (front l n) (alone-in-front a) (pair-in-front e) (single-in-front f)
 
   pub single-aimed : {i : ℕ} → LettersInFront l n → singlePlace false (part l n) ≡ At i → LetterThere l n i horn
   single-aimed g e = record { given = g; inside = omega (arith, single-within false (front l n) (single-in-front e), count-of l n); shape = lit< tt }

@@ -1,5 +1,6 @@
 pub mod Arrays
 pub mod States
+pub mod SecondHorns
 pub mod Stored
 pub mod Aimings
 pub mod Strokes

@@ -12,7 +12,7 @@ use denote.Enum.Declared.{tagOf}
 use Rattle.rules.specs.Letters.{Letter, Letters}
 use Rattle.rules.specs.TheWord.{State, Done, acted, undone, appended, stateOf, letter, number, atFront}
 use Rattle.rules.specs.KeyRoles as Rules
-use Rattle.rules.specs.KeyRoles.{append, close, editDoes}
+use Rattle.rules.specs.KeyRoles.{close, editDoes}
 use Rattle.rules.specs.declared.Act.{Act}
 use Rattle.rules.specs.declared.Outcome.{Outcome}
 use Rattle.rules.specs.declared.Outcome.the-variants.{Acted, Undone, Appended}
@@ -26,16 +26,16 @@ use Rattle.step.specs.declared.Edit.the-variants.{Nothing, Off, Change}
 use Rattle.step.specs.declared.Rest.{Rest}
 use Rattle.step.specs.declared.Counts.{Counts}
 use Rattle.step.specs.declared.Done as Answer
-use Rattle.step.specs.LentLetters.{LettersInFront, RoomForLetter, LeavesState, DoesAsRuled, Edits, kindOf, editedIn, stateIn, afterEdit, restWithTone, countedIn}
+use Rattle.step.specs.LentLetters.{LettersInFront, RoomForLetter, LeavesState, DoesAsRuled, Edits, kindOf, editedIn, stateIn, appendedPlainly, afterEdit, restWithTone, countedIn}
 use Rattle.step.proofs.Edit as Kinds
 use Rattle.step.proofs.Arrays.{within, added, front-letters, front-canonical}
 
 -- the same letters, written again
 module _ (l : List ℕ) (rest : Rest) (given : LettersInFront l (rest .count)) where
-  letters-read : length (map letter (take (rest .count) l)) ≡ rest .count
+  pub letters-read : length (map letter (take (rest .count) l)) ≡ rest .count
   letters-read = length-map (take (rest .count) l) letter ∙ length-take-le (rest .count) l (within l (rest .count) given)
 
-  same-array : atFront (map number (map letter (take (rest .count) l))) l ≡ l
+  pub same-array : atFront (map number (map letter (take (rest .count) l))) l ≡ l
   same-array =
       ap (λ (m : List ℕ). atFront m l) (given .canonical) ∙ ap (λ (k : ℕ). take (rest .count) l ++ drop k l) (length-take-le (rest .count) l (within l (rest .count) given)) ∙
       take-append-drop (rest .count) l
@@ -49,7 +49,7 @@ module _ (l : List ℕ) (rest : Rest) (given : LettersInFront l (rest .count)) w
 -- a letter more
 module _ (l : List ℕ) (rest : Rest) (room : RoomForLetter l (rest .count)) where
   pub appends : (x : Letter) (v : ℕ) → v ≡ number x →
-      LeavesState (append (stateIn l rest) x) l (record { count = rest .count + 1; tone = rest .tone; closed = rest .closed }) (set l (rest .count) v)
+      LeavesState (appendedPlainly (stateIn l rest) x) l (record { count = rest .count + 1; tone = rest .tone; closed = rest .closed }) (set l (rest .count) v)
   appends x v e =
       let n : rest .count + 1 ≡ length (stateIn l rest .letters ++ (x ∷ [])) = simp length-append (omega (arith, letters-read l rest (room .given))) in
       record {

@@ -1,14 +1,14 @@
 -- What a rule of document 01 leaves in the array of letters and in the state beside it, and the step's two answers. Only contracts of private functions cite what stands here.
 use mathlib.Core.Path.{_≡_}
 use mathlib.Core.Bool.{Bool, true, false}
-use mathlib.Core.List.{List, map}
+use mathlib.Core.List.{List, [], _∷_, _++_, map}
 use Prim.Native.Nat.{ℕ, _+_, _≤_, _<_}
 use Prim.Native.Char.{code}
 use lib.ListN.{length, take, set}
-use Rattle.rules.specs.Letters.{Letter, small}
+use Rattle.rules.specs.Letters.{Letter, small, among}
 use Rattle.rules.specs.TheWord.{State, Done, acted, undone, appended, stateOf, outcomeOf, oneMore, isActed, isUndone, isAppended, mostKeys, letter, number, atFront}
 use Rattle.rules.specs.KeyRoles as Rules
-use Rattle.rules.specs.KeyRoles.{append, undo, nothing, off, change}
+use Rattle.rules.specs.KeyRoles.{letterOfKey, takesSecondHorn, hornOnUIf, append, undo, nothing, off, change}
 use Rattle.rules.specs.declared.Role.{Role}
 use Rattle.rules.specs.declared.Role.the-variants.{NoRole}
 use Rattle.rules.specs.declared.Outcome.{Outcome}
@@ -74,6 +74,18 @@ restOf s = record { count = length (s .letters); tone = s .tone; closed = s .clo
 
 abbrev pub lettersLeft : List ℕ → State → List ℕ
 lettersLeft l s = atFront (map number (s .letters)) l
+
+-- a letter behind the others, and all else as it was
+abbrev pub appendedPlainly : State → Letter → State
+appendedPlainly s k = record { letters = s .letters ++ (k ∷ []); tone = s .tone; closed = s .closed }
+
+-- a key that never puts the second horn on: none of the seven letters
+abbrev pub NoSecondHorn : ℕ → Type 0
+NoSecondHorn key = among (letterOfKey key .base) "iucmnpt" ≡ false
+
+-- the array once an appended letter has put the second horn on, where it does
+abbrev pub withSecondHorn : List ℕ → Rest → Letter → List ℕ
+withSecondHorn l r k = atFront (map number (hornOnUIf (takesSecondHorn (stateIn l r) k) (stateIn l r .letters))) l
 
 pub record LeavesState (s : State) (old : List ℕ) (r : Rest) (new : List ℕ) : Type 0 where
   pub beside : r ≡ restOf s

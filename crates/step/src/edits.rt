@@ -77,11 +77,14 @@ fn both(letters: &mut [u16], count: usize, i: usize) -> Edit
     Edit::Nothing
 }
 
-// A horn on the pair; with no such pair, on the single letter.
+// A horn on the o alone, where the word is huo, khuo or thuo; else on the pair; with no such pair, on the single letter.
 fn horn_edit(letters: &mut [u16], count: usize) -> Edit
     requires { ⌜ LettersInFront (now letters) count ⌝ }
     ensures { λ r. ⌜ Edits (askedOf horn (horned (map letter (take count (now (letters .entry)))))) (now (letters .entry)) r (now (letters .exit)) ⌝ }
 {
+    if targets::horns_o_alone(&letters[0..count]) {
+        return at(letters, count, count - 1, HORN);
+    }
     let pair = targets::pair(&letters[0..count]);
     if let Place::At(i) = pair {
         return both(letters, count, i);

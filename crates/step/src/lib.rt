@@ -1,6 +1,7 @@
 // One key typed into a word: refused, or acted, undone or appended by the rules of its role, and counted.
 use records::Numbers;
 use rules::Act;
+use rules::HORN;
 use rules::NO_TONE;
 use rules::Outcome;
 use rules::Refusal;
@@ -13,12 +14,13 @@ ghost use mathlib.Core.Path.{_≡_};
 ghost use mathlib.Core.Bool.{true, false};
 ghost use Prim.Native.Nat.{_≤_, _<_};
 ghost use lib.ListN.{length};
+ghost use Rattle.rules.specs.Letters.{among};
 ghost use Rattle.rules.specs.TheWord.{mostKeys, appended as appendedOf, undone as undoneOf};
-ghost use Rattle.rules.specs.KeyRoles.{letterOfKey, append as appendOf, undo as undoOf, toneDoes, unlessClosed, role as roleOf, isKey};
+ghost use Rattle.rules.specs.KeyRoles.{letterOfKey, undo as undoOf, toneDoes, unlessClosed, role as roleOf, isKey};
 ghost use Rattle.rules.specs.Refusals.{outOfRange};
 ghost use Rattle.rules.specs.LettersOfAMode.{AllFine};
 ghost use Rattle.rules.specs.WhatComesBack.{step as stepOf};
-ghost use Rattle.step.specs.LentLetters.{RoomForLetter, LeavesState, DoesAsRuled, stateIn, afterEdit, restWithTone, countedIn, unlessClosedRole, refusedStep};
+ghost use Rattle.step.specs.LentLetters.{LettersInFront, RoomForLetter, NoSecondHorn, appendedPlainly, withSecondHorn, LeavesState, DoesAsRuled, stateIn, afterEdit, restWithTone, countedIn, unlessClosedRole, refusedStep};
 ghost use Rattle.step.specs.LentWord.{stepIn};
 ghost use Rattle.records.specs.Numbers.{wordIn};
 
@@ -47,7 +49,7 @@ struct Done {
 // The key as a plain letter after the others.
 fn append(letters: &mut [u16], rest: Rest, key: u8) -> Rest
     requires { ⌜ RoomForLetter (now letters) (rest .count) ⌝ }
-    ensures { λ r. ⌜ LeavesState (appendOf (stateIn (now (letters .entry)) rest) (letterOfKey key)) (now (letters .entry)) r (now (letters .exit)) ⌝ }
+    ensures { λ r. ⌜ LeavesState (appendedPlainly (stateIn (now (letters .entry)) rest) (letterOfKey key)) (now (letters .entry)) r (now (letters .exit)) ⌝ }
 {
     let n = rest.count as usize;
     letters[n] = keys::letter_of_key(key);
@@ -60,7 +62,7 @@ fn append(letters: &mut [u16], rest: Rest, key: u8) -> Rest
 
 fn appended(letters: &mut [u16], rest: Rest, key: u8) -> Done
     requires { ⌜ RoomForLetter (now letters) (rest .count) ⌝ }
-    ensures { λ r. ⌜ DoesAsRuled (appendedOf (appendOf (stateIn (now (letters .entry)) rest) (letterOfKey key))) (now (letters .entry)) r (now (letters .exit)) ⌝ }
+    ensures { λ r. ⌜ DoesAsRuled (appendedOf (appendedPlainly (stateIn (now (letters .entry)) rest) (letterOfKey key))) (now (letters .entry)) r (now (letters .exit)) ⌝ }
 {
     Done {
         outcome: Outcome::Appended,
@@ -97,7 +99,7 @@ fn with_tone(rest: Rest, tone: u8) -> Rest
 // Tone key: an undo if that tone is there already; else the tone, if the letters are admitted and it fits the final.
 // Clear: no tone, if there was one.
 fn tone_key(letters: &mut [u16], rest: Rest, key: u8, role: ToneKey) -> Done
-    requires { ⌜ RoomForLetter (now letters) (rest .count) ⌝ }
+    requires { ⌜ RoomForLetter (now letters) (rest .count) × NoSecondHorn key ⌝ }
     ensures { λ r. ⌜ DoesAsRuled (toneDoes role (stateIn (now (letters .entry)) rest) (letterOfKey key)) (now (letters .entry)) r (now (letters .exit)) ⌝ }
 {
     let tone = rest.tone;
@@ -125,7 +127,7 @@ fn tone_key(letters: &mut [u16], rest: Rest, key: u8, role: ToneKey) -> Done
 
 // What an edit of the letters does: nothing is an appended key, a mark taken off an undo, a change an act.
 fn edit_does(letters: &mut [u16], rest: Rest, key: u8, edit: Edit) -> Done
-    requires { ⌜ RoomForLetter (now letters) (rest .count) ⌝ }
+    requires { ⌜ RoomForLetter (now letters) (rest .count) × NoSecondHorn key ⌝ }
     ensures { λ r. ⌜ DoesAsRuled (afterEdit edit (stateIn (now (letters .entry)) rest) (letterOfKey key)) (now (letters .entry)) r (now (letters .exit)) ⌝ }
 {
     if let Edit::Off = edit {
@@ -150,6 +152,33 @@ fn role_in(closed: bool, mode: u8, key: u8) -> Role
     keys::role(mode, key)
 }
 
+// The letters that, after huơ, ask for the horn on its u too.
+fn asks_second_horn(b: u8) -> bool
+    ensures { λ r. ⌜ r ≡ among b "iucmnpt" ⌝ }
+{
+    (b == b'i')
+        | ((b == b'u')
+            | ((b == b'c') | ((b == b'm') | ((b == b'n') | ((b == b'p') | (b == b't'))))))
+}
+
+// The horn that an appended letter puts on the u of an open huơ, khuơ or thuơ. Only letters without a role put it on.
+fn second_horn(letters: &mut [u16], rest: Rest, key: u8)
+    requires { ⌜ LettersInFront (now letters) (rest .count) ⌝ }
+    ensures { λ r. ⌜ now (letters .exit) ≡ withSecondHorn (now (letters .entry)) rest (letterOfKey key) ⌝ }
+{
+    let n = rest.count as usize;
+    if !targets::awaits_second_horn(&letters[0..n]) {
+        return;
+    }
+    if rest.closed {
+        return;
+    }
+    if !asks_second_horn(rules::base(keys::letter_of_key(key))) {
+        return;
+    }
+    letters[n - 2] = rules::reshaped(letters[n - 2], HORN);
+}
+
 // What a key does by its role: one that has none is appended.
 fn key_does(letters: &mut [u16], rest: Rest, mode: u8, key: u8) -> Done
     requires { ⌜ RoomForLetter (now letters) (rest .count) × AllFine mode (stateIn (now letters) rest .letters) ⌝ }
@@ -167,7 +196,10 @@ fn key_does(letters: &mut [u16], rest: Rest, mode: u8, key: u8) -> Done
             let edit = edits::stroke_edit(letters, count);
             edit_does(letters, rest, key, edit)
         }
-        Role::NoRole => appended(letters, rest, key),
+        Role::NoRole => {
+            second_horn(letters, rest, key);
+            appended(letters, rest, key)
+        }
     }
 }
 

@@ -12,7 +12,7 @@ use Rattle.rules.specs.Letters.{Letter, Letters, plain}
 use Rattle.rules.specs.TakingApart.{agreesAt, agrees}
 use Rattle.syllable.specs.Numbers.{digit, num, more, packed, bounded, Packs, short, Numbers, plainOf, agreeDigit}
 use Rattle.rules.proofs.Tests.{is-true}
-use Rattle.parts.proofs.Bools.{ifSo, only, never, and-false, and-if, eqb-case}
+use Rattle.rules.proofs.Bools.{ifSo, only, never, and-false, and-is, eqb-case}
 use Rattle.syllable.proofs.PackedWords.{T-lt, Bounded, bounded-head, bounded-tail, digit-base, is-digit}
 
 -- one letter: it is the nucleus's letter, or that letter without its shape
@@ -61,7 +61,7 @@ agree-digits (suc k) (x ∷ xs) (z ∷ zs) s u h l =
     let mz : num (z ∷ zs) % 4096 ≡ digit z = omega (arith, b) in
     let dx : num (x ∷ xs) / 4096 ≡ num xs = omega (arith, a) in
     let dz : num (z ∷ zs) / 4096 ≡ num zs = omega (arith, b) in
-    (λ j. agreeDigit (mx j) (mz j) && agreeDigits k (dx j) (dz j)) ∙ ap₂ _&&_ (agree-digit x z a b) (agree-digits k xs zs (bounded-tail x xs s) (bounded-tail z zs u) (omega arith) (omega arith)) ∙ and-if (agreesAt x z) (agrees xs zs)
+    (λ j. agreeDigit (mx j) (mz j) && agreeDigits k (dx j) (dz j)) ∙ ap₂ _&&_ (agree-digit x z a b) (agree-digits k xs zs (bounded-tail x xs s) (bounded-tail z zs u) (omega arith) (omega arith)) ∙ and-is (agreesAt x z) (agrees xs zs)
 
 -- more letters than the nucleus has never agree
 longer : (v z : Letters) → length z < length v → agrees v z ≡ false

@@ -10,7 +10,7 @@ use Rattle.rules.specs.TakingApart.{initial, nucleus, final, leftovers, initial
 use Rattle.rules.specs.KeyRoles.{toneGoes}
 use Rattle.rules.proofs.Tests.{is-true, or-r, some-row-so}
 use Rattle.syllable.specs.Checks.{initialFault, sixth, firstFault}
-use Rattle.parts.proofs.Bools.{ifSo}
+use Rattle.rules.proofs.Bools.{ifSo}
 
 -- what passes a stronger test passes a weaker one
 and-so : (a b c d : Bool) → (T a → T b) → (T c → T d) → T (ifSo a c) → T (ifSo b d)

@@ -11,7 +11,7 @@ use Rattle.rules.specs.Letters.{Letters, elem}
 use Rattle.rules.specs.TakingApart.{rows}
 use Rattle.syllable.specs.Numbers.{num, plainOf, short}
 use Rattle.syllable.specs.Nuclei.{nucleiOf, withBasesIn, withBases, threeOf}
-use Rattle.parts.proofs.Bools.{pick, eqb-case}
+use Rattle.rules.proofs.Bools.{pick, eqb-case}
 use Rattle.syllable.proofs.PackedWords.{shorts}
 use Rattle.syllable.proofs.Keys.{Rest, NoKey, rest, inArm, not-in}
 

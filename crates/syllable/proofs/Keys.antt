@@ -9,7 +9,7 @@ use lib.Ieee.Fits.{and-l, and-r}
 use Rattle.rules.specs.Letters.{Letters, elem, oneOf}
 use Rattle.syllable.specs.Numbers.{nums, Packs}
 use Rattle.rules.proofs.Tests.{is-true}
-use Rattle.parts.proofs.Bools.{eqb-case}
+use Rattle.rules.proofs.Bools.{eqb-case}
 use Rattle.syllable.proofs.PackedWords.{shorts, one-is}
 
 -- a number is one of the keys of an arm

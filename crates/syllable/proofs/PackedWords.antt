@@ -13,7 +13,7 @@ use Rattle.rules.specs.TakingApart.{twoOrMore}
 use Rattle.rules.specs.TheWord.{letter}
 use Rattle.syllable.specs.Numbers.{digit, digitAt, num, nums, more, packed, bounded, Packs, short, Numbers}
 use Rattle.rules.proofs.Tests.{is-true}
-use Rattle.parts.proofs.Bools.{pick, ifSo, only, or-if, eqb-case}
+use Rattle.rules.proofs.Bools.{pick, ifSo, only, or-is, eqb-case}
 
 pub T-lt : (a b : ℕ) → T (ltb a b) → a < b
 T-lt a b t = ltb-true a b (is-true (ltb a b) t)
@@ -106,7 +106,7 @@ module _ {p : ℕ} {w : Letters} (c : Packs p w) where
   one-is [] u = refl
   one-is (z ∷ []) u = same-is z (and-l (short z) true u) ∙ only (same w z)
   one-is (z ∷ y ∷ ys) u =
-      sym (or-if (eqb p (num z)) (elem p (nums (y ∷ ys)))) ∙ ap₂ (pick true) (same-is z (and-l (short z) (shorts (y ∷ ys)) u)) (one-is (y ∷ ys) (and-r (short z) (shorts (y ∷ ys)) u))
+      sym (or-is (eqb p (num z)) (elem p (nums (y ∷ ys)))) ∙ ap₂ (pick true) (same-is z (and-l (short z) (shorts (y ∷ ys)) u)) (one-is (y ∷ ys) (and-r (short z) (shorts (y ∷ ys)) u))
 
   pub none-is : eqb p 0 ≡ isNil w
   none-is = same-is [] tt ∙ go w

@@ -12,7 +12,7 @@ use Rattle.rules.specs.TakingApart.{Row, rows, inRow}
 use Rattle.syllable.specs.Numbers.{nums, Packs}
 use Rattle.syllable.specs.Nuclei.{noRow, rowIn, rowOf}
 use Rattle.rules.proofs.Tests.{is-true}
-use Rattle.parts.proofs.Bools.{pick, and-false}
+use Rattle.rules.proofs.Bools.{pick, and-false}
 use Rattle.syllable.proofs.PackedWords.{shorts, one-is}
 use Rattle.syllable.proofs.Keys.{Key, keys, every, holds, Rest, NoKey, rest, inArm, isIn, no-elem, is-one, no-one}
 

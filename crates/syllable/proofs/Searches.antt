@@ -13,7 +13,7 @@ use Rattle.rules.specs.TakingApart.{Row, rows, someRow, isThis, couldBe, listed
 use Rattle.syllable.specs.Numbers.{num, nums, packed, Packs, short, Numbers, plainOf}
 use Rattle.syllable.specs.Nuclei.{nucleiOf, noRow, rowIn, rowOf, withBasesIn, withBases}
 use Rattle.rules.proofs.Tests.{is-true}
-use Rattle.parts.proofs.Bools.{pick, ifSo, only, and-false, or-if, eqb-case}
+use Rattle.rules.proofs.Bools.{pick, ifSo, only, and-false, or-is, eqb-case}
 use Rattle.syllable.proofs.PackedWords.{shorts, same-is, one-is, table-packs}
 use Rattle.syllable.proofs.Rows.{rowNumber, row, row-is}
 use Rattle.syllable.proofs.Agreements.{agree-is, bases}
@@ -117,9 +117,9 @@ module _ (g : Letters → Bool) (p : ℕ) where
 
 of-three : (g : Letters → Bool) (zs : List Letters) → length zs ≤ 3 → g [] ≡ false → someWord g zs ≡ (g (getD zs 0 []) || (g (getD zs 1 []) || g (getD zs 2 [])))
 of-three g [] h e = λ j. sym e j || (sym e j || sym e j)
-of-three g (x ∷ []) h e = or-if (g x) false ∙ (λ j. g x || (sym e j || sym e j))
-of-three g (x ∷ y ∷ []) h e = or-if (g x) (pick true (g y) false) ∙ (λ j. g x || (or-if (g y) false j)) ∙ (λ j. g x || (g y || sym e j))
-of-three g (x ∷ y ∷ z ∷ []) h e = or-if (g x) (pick true (g y) (pick true (g z) false)) ∙ (λ j. g x || or-if (g y) (sym (only (g z)) j) j)
+of-three g (x ∷ []) h e = or-is (g x) false ∙ (λ j. g x || (sym e j || sym e j))
+of-three g (x ∷ y ∷ []) h e = or-is (g x) (pick true (g y) false) ∙ (λ j. g x || (or-is (g y) false j)) ∙ (λ j. g x || (g y || sym e j))
+of-three g (x ∷ y ∷ z ∷ []) h e = or-is (g x) (pick true (g y) (pick true (g z) false)) ∙ (λ j. g x || or-is (g y) (sym (only (g z)) j) j)
 of-three g (x ∷ y ∷ z ∷ t ∷ ts) h e = absurd (omega arith)
 
 module _ {p : ℕ} {v : Letters} (c : Packs p v) (w f : Letters) where

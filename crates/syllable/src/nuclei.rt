@@ -9,7 +9,7 @@ ghost use Rattle.syllable.specs.Numbers.{Packs, Numbers, plainOf, agreeD
 ghost use Rattle.syllable.specs.Nuclei.{rowOf, withBases, threeOf};
 use super::words::*;
 
-// The nuclei (54), the finals of each, and NONE where it stands open.
+// The nuclei (55), the finals of each, and NONE where it stands open.
 fn in_table(nuc: u64, fin: u64) -> bool
     ensures { λ r. ⌜ ((v f : Letters) → Packs nuc v → Packs fin f → r ≡ inRow (rowOf v) f) ⌝ }
 {
@@ -45,7 +45,7 @@ fn in_table(nuc: u64, fin: u64) -> bool
         AI | AO | AU | AY | AAU | AAY | EO | EEU | IA | IU => fin == NONE,
         OI | OOI | OWI | UA | UI | UWA | UWI | UWU => fin == NONE,
         IEEU | YEEU | OAI | OAY | OEO | UAAY | UOOI | UYA => fin == NONE,
-        UWOWI | UWOWU | UYU | UEEU | OAO => fin == NONE,
+        UWOWI | UWOWU | UYU | UEEU | OAO | UOW => fin == NONE,
         _ => false,
     }
 }
@@ -57,10 +57,13 @@ fn takes(ini: u64, nuc: u64, fin: u64) -> bool
     in_table(nuc, fin) | ((ini == GI) & ((nuc == EE) & (fin == NG)))
 }
 
-// yê and yêu stand only after no initial or qu. After qu, no nucleus of two or more letters begins with o in any shape.
+// uơ stands only after h, kh and th, yê and yêu only after no initial or qu. After qu, no nucleus of two or more letters begins with o in any shape.
 fn stands(ini: u64, nuc: u64) -> bool
     ensures { λ r. ⌜ ((w v : Letters) → Packs ini w → Packs nuc v → r ≡ standsOf w v) ⌝ }
 {
+    if nuc == UOW {
+        return (ini == H) | ((ini == KH) | (ini == TH));
+    }
     if ini == QU {
         return !((NEXT <= nuc) & (nuc % SHAPE == O));
     }
@@ -87,7 +90,7 @@ fn plain(p: u64) -> u64
 // Up to three nuclei; NONE where there are fewer.
 struct Three(u64, u64, u64);
 
-// The listed nuclei with these base letters, in the order of the list: so at most three are asked, and not all 54.
+// The listed nuclei with these base letters, in the order of the list: so at most three are asked, and not all 55.
 fn with_bases(bases: u64) -> Three
     ensures { λ r. ⌜ (r ≡ threeOf (withBases bases)) × (length (withBases bases) ≤ 3) ⌝ }
 {
@@ -101,7 +104,7 @@ fn with_bases(bases: u64) -> Three
         UA => Three(UAA, UA, UWA),
         IE => Three(IEE, NONE, NONE),
         YE => Three(YEE, NONE, NONE),
-        UO => Three(UOO, UWOW, NONE),
+        UO => Three(UOO, UWOW, UOW),
         I => Three(I, NONE, NONE),
         UE => Three(UEE, NONE, NONE),
         Y => Three(Y, NONE, NONE),
@@ -145,9 +148,10 @@ fn agrees_at(x: u64, z: u64) -> bool
 fn agrees(nuc: u64, z: u64) -> bool
     ensures { λ r. ⌜ ((v l : Letters) → Packs nuc v → Numbers z l → r ≡ agreesOf v l) ⌝ }
 {
-    agrees_at(nuc % NEXT, z % NEXT)
-        & (agrees_at(nuc / NEXT % NEXT, z / NEXT % NEXT)
-            & agrees_at(nuc / NEXT / NEXT, z / NEXT / NEXT))
+    if !agrees_at(nuc % NEXT, z % NEXT) {
+        return false;
+    }
+    agrees_at(nuc / NEXT % NEXT, z / NEXT % NEXT) & agrees_at(nuc / NEXT / NEXT, z / NEXT / NEXT)
 }
 
 // Could the letters become this listed nucleus: an empty final is always taken.

@@ -116,6 +116,8 @@ pub const UOO: u64 = U + NEXT * OO;
 
 pub const UWOW: u64 = UW + NEXT * OW;
 
+pub const UOW: u64 = U + NEXT * OW;
+
 pub const UEE: u64 = U + NEXT * EE;
 
 pub const UY: u64 = U + NEXT * Y;

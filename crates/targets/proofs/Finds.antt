@@ -2,14 +2,16 @@
 use mathlib.Core.Path.{_≡_, refl, ap, ap₂, _∙_}
 use mathlib.Core.Bool.{Bool, true, false, _&&_}
 use mathlib.Core.List.{[], _∷_}
-use Prim.Native.Nat.{ℕ, suc}
+use Prim.Native.Nat.{ℕ, suc, _+_}
 use lib.Dec.{eqb}
+use lib.ListN.{length}
 use Rattle.rules.specs.Letters.{Letter, Letters, plain, horn}
-use Rattle.rules.specs.KeyRoles.{shaped, Found, behind, orElse, ifSo, target, here, last, isQ, pairHere, pair, single, horned, isPair, isSingle}
+use Rattle.rules.specs.KeyRoles.{shaped, Found, behind, orElse, ifSo, target, here, last, isQ, isO, hornsOAlone, pairHere, pair, single, horned, isPair, isSingle}
 use Rattle.rules.specs.declared.Place.{Place}
 use Rattle.rules.specs.declared.Place.the-variants.{At, Nowhere}
 use Rattle.targets.specs.Places.{next, orThis, hereOr, lastPlace, pairPlace, singlePlace}
 use Rattle.targets.specs.Aims.{shapeAt, oneAt, pairAt}
+use Rattle.targets.proofs.Waits.{o-at-end}
 
 behind-target : (c : Bool) (x : Letter) (v w : Letters) → behind x (target c v w) ≡ target c (x ∷ v) (x ∷ w)
 behind-target true x v w = refl
@@ -61,14 +63,19 @@ pair-is q (x ∷ z ∷ zs) =
     go true p = or-target (eqb (x .shape) horn && eqb (z .shape) horn) _ _ _
     go false p = pair-next p x (z ∷ zs)
 
--- horn: the pair; with no such pair the single letter; or nothing
+-- horn: of huo the o at its end; else the pair; with no such pair the single letter; or nothing
 module _ (xs : Letters) where
-  horn-at : horned xs ≡ orElse (pairAt (pairPlace false xs) xs) (oneAt horn (singlePlace false xs) xs)
-  horn-at = ap₂ orElse (pair-is false xs) (single-is false xs)
+  horn-at : {alone : Bool} → hornsOAlone xs ≡ alone → horned xs ≡ orElse (ifSo alone (last isO horn xs)) (orElse (pairAt (pairPlace false xs) xs) (oneAt horn (singlePlace false xs) xs))
+  horn-at a j = orElse (ifSo (a j) (last isO horn xs)) (orElse (pair-is false xs j) (single-is false xs j))
 
-  pub horned-pair : {i : ℕ} → pairPlace false xs ≡ At i → horned xs ≡ pairAt (At i) xs
-  horned-pair {i} e =
-      horn-at ∙ ap (λ (p : Place). orElse (pairAt p xs) (oneAt horn (singlePlace false xs) xs)) e ∙ or-target (eqb (shapeAt i xs) horn && eqb (shapeAt (suc i) xs) horn) _ _ _
+  pub horned-alone : (n : ℕ) → hornsOAlone xs ≡ true → length xs ≡ n + 1 → horned xs ≡ oneAt horn (At n) xs
+  horned-alone n a e =
+      horn-at a ∙ ap (λ (f : Found). orElse f (orElse (pairAt (pairPlace false xs) xs) (oneAt horn (singlePlace false xs) xs))) (last-is isO horn xs ∙ ap (λ (p : Place). oneAt horn p xs) (o-at-end xs a n e)) ∙
+      or-target (eqb (shapeAt n xs) horn) _ _ _
 
-  pub horned-single : {p : Place} → pairPlace false xs ≡ Nowhere → singlePlace false xs ≡ p → horned xs ≡ oneAt horn p xs
-  horned-single e f = horn-at ∙ ap₂ (λ (p q : Place). orElse (pairAt p xs) (oneAt horn q xs)) e f
+  pub horned-pair : {i : ℕ} → hornsOAlone xs ≡ false → pairPlace false xs ≡ At i → horned xs ≡ pairAt (At i) xs
+  horned-pair {i} a e =
+      horn-at a ∙ ap (λ (p : Place). orElse (pairAt p xs) (oneAt horn (singlePlace false xs) xs)) e ∙ or-target (eqb (shapeAt i xs) horn && eqb (shapeAt (suc i) xs) horn) _ _ _
+
+  pub horned-single : {p : Place} → hornsOAlone xs ≡ false → pairPlace false xs ≡ Nowhere → singlePlace false xs ≡ p → horned xs ≡ oneAt horn p xs
+  horned-single a e f = horn-at a ∙ ap₂ (λ (p q : Place). orElse (pairAt p xs) (oneAt horn q xs)) e f

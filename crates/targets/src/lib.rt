@@ -1,11 +1,16 @@
-// Where a shape key aims: places in a lent slice of letter numbers, of any length.
+// Where a shape key aims: places in a lent slice of letter numbers, of any length. Of huo, khuo and thuo the horn takes the o alone, and huơ, khuơ and thuơ wait for a second horn.
+use rules::CIRCUMFLEX;
+use rules::HORN;
+use rules::PLAIN;
 use rules::Place;
 use rules::ShapeKey;
 ghost use mathlib.Core.Path.{_≡_};
 ghost use mathlib.Core.List.{map};
+ghost use mathlib.Core.List.{[], _∷_};
+ghost use Rattle.rules.specs.Letters.{words, oneOf};
 ghost use Rattle.rules.specs.TheWord.{letter};
 ghost use mathlib.Core.Bool.{false};
-ghost use Rattle.rules.specs.KeyRoles.{own as ownOf, isAEO, isQ, isPair, isSingle};
+ghost use Rattle.rules.specs.KeyRoles.{own as ownOf, isAEO, isQ, isPair, isSingle, hornsOAlone, awaitsSecondHorn};
 ghost use Rattle.targets.specs.Places.{wanted, lastPlace, pairPlace, singlePlace};
 
 // Circumflex wants its own letter, or a, e or o; breve wants a.
@@ -112,4 +117,76 @@ pub fn single(letters: &[u16]) -> Place
         i += 1;
     }
     Place::Nowhere
+}
+
+// Nothing, k or t.
+fn is_none_k_t(letters: &[u16]) -> bool
+    ensures { λ r. ⌜ r ≡ oneOf (map letter (now (letters .entry))) ([] ∷ words "k t") ⌝ }
+{
+    let n = letters.len();
+    if n == 0 {
+        return true;
+    }
+    if 1 < n {
+        return false;
+    }
+    rules::is(letters[0], b'k', PLAIN) | rules::is(letters[0], b't', PLAIN)
+}
+
+// h, kh or th.
+fn is_h_kh_th(letters: &[u16]) -> bool
+    ensures { λ r. ⌜ r ≡ oneOf (map letter (now (letters .entry))) (words "h kh th") ⌝ }
+{
+    let n = letters.len();
+    if n == 0 {
+        return false;
+    }
+    if !rules::is(letters[n - 1], b'h', PLAIN) {
+        return false;
+    }
+    is_none_k_t(&letters[0..n - 1])
+}
+
+// These with a plain u.
+fn is_hu(letters: &[u16]) -> bool
+    ensures { λ r. ⌜ r ≡ oneOf (map letter (now (letters .entry))) (words "hu khu thu") ⌝ }
+{
+    let n = letters.len();
+    if n == 0 {
+        return false;
+    }
+    if !rules::is(letters[n - 1], b'u', PLAIN) {
+        return false;
+    }
+    is_h_kh_th(&letters[0..n - 1])
+}
+
+// And with an o in any shape at the end: the horn takes this o alone.
+pub fn horns_o_alone(letters: &[u16]) -> bool
+    ensures { λ r. ⌜ r ≡ hornsOAlone (map letter (now (letters .entry))) ⌝ }
+{
+    let n = letters.len();
+    if n == 0 {
+        return false;
+    }
+    let last = letters[n - 1];
+    if !(rules::is(last, b'o', PLAIN)
+        | (rules::is(last, b'o', CIRCUMFLEX) | rules::is(last, b'o', HORN))) {
+        return false;
+    }
+    is_hu(&letters[0..n - 1])
+}
+
+// And with an ơ at the end: a letter that follows may put the horn on the u too.
+pub fn awaits_second_horn(letters: &[u16]) -> bool
+    ensures { λ r. ⌜ r ≡ awaitsSecondHorn (map letter (now (letters .entry))) ⌝ }
+{
+    let n = letters.len();
+    if n == 0 {
+        return false;
+    }
+    if !rules::is(letters[n - 1], b'o', HORN) {
+        return false;
+    }
+    is_hu(&letters[0..n - 1])
 }

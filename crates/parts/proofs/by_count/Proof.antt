@@ -2,7 +2,7 @@
 use mathlib.Core.Path.{sym}
 use native.Mathlib.Omega.{arith}
 use borrow.Author.Tests.{ne-eqb}
-use Rattle.parts.proofs.Bools.{pick}
+use Rattle.rules.proofs.Bools.{pick}
 use Rattle.parts.proofs.by_count.Statement.{statement}
 use Rattle.parts.proofs.by_count.Tie as tie
 

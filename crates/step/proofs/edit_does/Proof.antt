@@ -1,10 +1,12 @@
 -- `step::edit_does` meets its contract: each arm is the case of its edit.
-use mathlib.Core.Path.{ap}
+use mathlib.Core.Path.{ap, _∙_}
 use borrow.Author.Needs.{needs}
+use Rattle.rules.specs.TheWord.{appended}
 use Rattle.rules.specs.KeyRoles.{letterOfKey}
 use Rattle.step.specs.declared.Edit.{Edit}
 use Rattle.step.specs.LentLetters.{stateIn, afterEdit}
 use Rattle.step.proofs.States.{same, as-acted, as-ruled, no-edit}
+use Rattle.step.proofs.SecondHorns.{plainly}
 use Rattle.step.proofs.edit_does.Statement.{statement}
 use Rattle.step.proofs.edit_does.Tie as tie
 
@@ -23,10 +25,10 @@ edit-does-spec =
     (λ c.
     let edit = c .before in
     let at = edit .before .before .before .before in
-    as-ruled (ap (λ (e : Edit). afterEdit e (stateIn (at .args .letters .now) (at .args .rest)) (letterOfKey (at .args .key))) (edit .edit .given .1)) (as-acted (edit .edit .given .0 .0) (same (at .args .letters .now) (at .args .rest) (at .pre .given))))
+    as-ruled (ap (λ (e : Edit). afterEdit e (stateIn (at .args .letters .now) (at .args .rest)) (letterOfKey (at .args .key))) (edit .edit .given .1)) (as-acted (edit .edit .given .0 .0) (same (at .args .letters .now) (at .args .rest) (at .pre .0 .given))))
     (λ c κs. search needs)
     (λ c. search needs)
     (λ c.
     let no = c .before .before .before .before in
     let at = no .before .before .before in
-    as-ruled (ap (λ (e : Edit). afterEdit e (stateIn (at .args .letters .now) (at .args .rest)) (letterOfKey (at .args .key))) (no-edit (at .args .edit) (no .before .match .keys2) (no .match2 .keys2))) (c .before .before .appended .ensures)))
+    as-ruled (ap (λ (e : Edit). afterEdit e (stateIn (at .args .letters .now) (at .args .rest)) (letterOfKey (at .args .key))) (no-edit (at .args .edit) (no .before .match .keys2) (no .match2 .keys2)) ∙ ap appended (plainly (stateIn (at .args .letters .now) (at .args .rest)) (letterOfKey (at .args .key)) (at .pre .1))) (c .before .before .appended .ensures)))

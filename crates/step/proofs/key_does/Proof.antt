@@ -12,6 +12,7 @@ use Rattle.rules.proofs.Edits.{good-shape, good-stroke}
 use Rattle.step.specs.declared.Rest.{Rest}
 use Rattle.step.specs.LentLetters.{stateIn, unlessClosedRole}
 use Rattle.step.proofs.States.{as-ruled, room-after, edit-then}
+use Rattle.step.proofs.SecondHorns.{by-its-role, room-then, horn-then}
 use Rattle.step.proofs.key_does.Statement.{statement}
 use Rattle.step.proofs.key_does.Tie as tie
 
@@ -31,20 +32,35 @@ key-does-spec =
     (λ c. search needs)
     (λ c κs. search needs)
     (λ c. search needs)
-    (λ c κs. search needs)
+    (λ c κs.
+    let known = c .before .before in
+    let role = known .before .before in
+    let at = role .before .before .before in
+    (at .pre .0, by-its-role (at .args .rest .closed) (at .args .mode) (at .args .key) (role .role-in .ensures) (known .role .given .1) tt))
     (λ c. search needs)
     (λ c κs. search needs)
     (λ c κs.
     let known = c .before .before .before .before .before .before in
-    let at = known .before .before .before .before .before in
-    room-after (at .args .mode) (at .args .letters .now) (at .args .rest) (at .pre .0) (at .pre .1) (good-shape (known .role2 .given .0 .0) _) (c .before .before .before .shape-edit .ensures))
+    let role = known .before .before in
+    let at = role .before .before .before in (
+      room-after (at .args .mode) (at .args .letters .now) (at .args .rest) (at .pre .0) (at .pre .1) (good-shape (known .role2 .given .0 .0) _) (c .before .before .before .shape-edit .ensures),
+      by-its-role (at .args .rest .closed) (at .args .mode) (at .args .key) (role .role-in .ensures) (known .role2 .given .1) tt,
+    ))
     (λ c. search needs)
     (λ c κs. search needs)
     (λ c κs.
-    let at = c .before .before .before .before .before .before .before .before .before .before in
-    room-after (at .args .mode) (at .args .letters .now) (at .args .rest) (at .pre .0) (at .pre .1) (good-stroke _) (c .before .before .before .stroke-edit .ensures))
+    let known = c .before .before .before .before .before in
+    let role = known .before .before in
+    let at = role .before .before .before in (
+      room-after (at .args .mode) (at .args .letters .now) (at .args .rest) (at .pre .0) (at .pre .1) (good-stroke _) (c .before .before .before .stroke-edit .ensures),
+      by-its-role (at .args .rest .closed) (at .args .mode) (at .args .key) (role .role-in .ensures) (known .enum-told .given .1) tt,
+    ))
     (λ c. search needs)
     (λ c κs. search needs)
+    (λ c κs.
+    let horn = c .before .before .before in
+    let at = horn .before .before .before .before .before .before .before in
+    room-then (at .args .letters .now) (at .args .rest) (letterOfKey (at .args .key)) _ (horn .second-horn .ensures) (at .pre .0))
     (λ c. search needs)
     (λ c.
     let known = c .before .before .before .before .before in
@@ -67,7 +83,9 @@ key-does-spec =
     (edit-then (at .args .mode) (at .args .letters .now) (at .args .rest) (at .pre .0) (at .pre .1) (letterOfKey (at .args .key)) (good-stroke _) (c .before .before .before .before .before .before .stroke-edit .ensures) (c .before .before .edit-does2 .ensures)))
     (λ c. search needs)
     (λ c.
-    let known = c .before .before .before .before in
+    let horn = c .before .before .before .before .before .before in
+    let known = horn .before .before in
     let role = known .before .before in
     let at = role .before .before .before in
-    as-ruled (by-role (at .args .letters .now) (at .args .rest) (at .args .mode) (at .args .key) (role .role-in .ensures) (known .enum-told2 .given .1)) (c .before .before .appended .ensures)))
+    as-ruled (by-role (at .args .letters .now) (at .args .rest) (at .args .mode) (at .args .key) (role .role-in .ensures) (known .enum-told2 .given .1))
+    (horn-then (at .args .letters .now) (at .args .rest) (letterOfKey (at .args .key)) _ (horn .second-horn .ensures) (at .pre .0) (c .before .before .appended .ensures))))

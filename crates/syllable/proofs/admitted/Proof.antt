@@ -4,7 +4,7 @@ use lib.Dec.{eqb}
 use Prim.Native.Nat.{ℕ}
 use Rattle.rules.specs.Letters.{acute}
 use Rattle.rules.specs.TakingApart.{fits}
-use Rattle.parts.proofs.Bools.{and-true}
+use Rattle.rules.proofs.Bools.{and-true}
 use Rattle.syllable.proofs.Asks.{free-goes}
 use Rattle.syllable.proofs.admitted.Statement.{statement}
 use Rattle.syllable.proofs.admitted.Tie as tie

@@ -10,7 +10,7 @@ use Rattle.rules.specs.Letters.{Letters, elem, among, word, words, oneOf}
 use Rattle.rules.specs.TakingApart.{initials, implies, fit, check, firstThatHolds}
 use Rattle.syllable.specs.Numbers.{num, nums, Packs}
 use Rattle.rules.proofs.Tests.{is-true}
-use Rattle.parts.proofs.Bools.{and-true}
+use Rattle.rules.proofs.Bools.{and-true}
 use Rattle.syllable.proofs.PackedWords.{same-is, one-is}
 use Rattle.syllable.proofs.Keys.{Key, keys, every, holds, isIn, is-one, no-one}
 use Rattle.syllable.proofs.initial_fault.Statement.{statement}

@@ -5,7 +5,7 @@ use borrow.Author.Tests.{eq-eqb, ne-eqb, not-true, not-false}
 use Rattle.rules.specs.Letters.{isNil}
 use Rattle.rules.specs.TakingApart.{stands, takes}
 use Rattle.syllable.specs.Nuclei.{rowOf}
-use Rattle.parts.proofs.Bools.{ifSo}
+use Rattle.rules.proofs.Bools.{ifSo}
 use Rattle.syllable.proofs.PackedWords.{table-packs, none-is}
 use Rattle.syllable.proofs.nuclei.could_be.Statement.{statement}
 use Rattle.syllable.proofs.nuclei.could_be.Tie as tie

@@ -1,7 +1,7 @@
 -- `syllable::nuclei::listed` meets its contract. Assumes nothing.
 use mathlib.Core.Path.{sym, ap, _∙_}
 use mathlib.Core.Bool.{_&&_}
-use Rattle.parts.proofs.Bools.{and-false}
+use Rattle.rules.proofs.Bools.{and-false}
 use Rattle.syllable.proofs.PackedWords.{table-packs}
 use Rattle.syllable.proofs.Searches.{listed-is, takes-none}
 use Rattle.syllable.proofs.nuclei.listed.Statement.{statement}

@@ -3,7 +3,7 @@ use mathlib.Core.Path.{_≡_, refl}
 use mathlib.Core.Bool.{Bool, true, false, _&&_, _||_}
 use Prim.Native.Nat.{ℕ}
 use borrow.Author.Tests.{eqb-true, eqb-false}
-use lib.Dec.{eqb}
+use lib.Dec.{T, eqb}
 
 -- x where the test holds, else y
 abbrev pub pick : {A : Type 0} → A → Bool → A → A
@@ -28,17 +28,36 @@ pub and-false : (a : Bool) → false ≡ (a && false)
 and-false true = refl
 and-false false = refl
 
-pub and-if : (a b : Bool) → (a && b) ≡ ifSo a b
-and-if true b = refl
-and-if false b = refl
+pub and-is : (a b : Bool) → (a && b) ≡ ifSo a b
+and-is true b = refl
+and-is false b = refl
 
-pub or-if : (a b : Bool) → pick true a b ≡ (a || b)
-or-if true b = refl
-or-if false b = refl
+pub or-is : (a b : Bool) → pick true a b ≡ (a || b)
+or-is true b = refl
+or-is false b = refl
 
 pub or-assoc : (a b c : Bool) → ((a || b) || c) ≡ (a || (b || c))
 or-assoc true b c = refl
 or-assoc false b c = refl
+
+-- a choice that holds: both of two tests, one of two
+pub and-if : (b c : Bool) → T (ifSo b c) → T b × T c
+and-if true c t = (tt, t)
+
+pub either : {P : Type 0} (b c : Bool) → (T b → P) → (T c → P) → T (pick true b c) → P
+either true c f g t = f tt
+either false c f g t = g t
+
+pub and-so : (b c : Bool) → T b → T c → T (ifSo b c)
+and-so true c t u = u
+and-so false c t u = t
+
+pub or-so : (b c : Bool) → T b → T (pick true b c)
+or-so true c t = tt
+
+pub or-rest : (b c : Bool) → T c → T (pick true b c)
+or-rest true c t = tt
+or-rest false c t = t
 
 -- a case on a test of two numbers
 pub eqb-case : (P : Bool → Type 0) (a b : ℕ) → (a ≡ b → P true) → ((a ≡ b → ⊥) → P false) → P (eqb a b)

@@ -5,11 +5,10 @@ use rules::PLAIN;
 use rules::Place;
 use rules::ShapeKey;
 ghost use mathlib.Core.Path.{_≡_};
-ghost use mathlib.Core.List.{map};
-ghost use mathlib.Core.List.{[], _∷_};
+ghost use mathlib.Core.Bool.{false};
+ghost use mathlib.Core.List.{[], _∷_, map};
 ghost use Rattle.rules.specs.Letters.{words, oneOf};
 ghost use Rattle.rules.specs.TheWord.{letter};
-ghost use mathlib.Core.Bool.{false};
 ghost use Rattle.rules.specs.KeyRoles.{own as ownOf, isAEO, isQ, isPair, isSingle, hornsOAlone, awaitsSecondHorn};
 ghost use Rattle.targets.specs.Places.{wanted, lastPlace, pairPlace, singlePlace};
 

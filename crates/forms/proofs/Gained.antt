@@ -11,43 +11,19 @@ use lib.ListN.{length, take, getD}
 use lib.Ieee.Fits.{and-i, and-l, and-r, eq→eqb}
 use Rattle.rules.specs.Letters.{Letters, plain, horn, dot, acute, elem, named, word, words, same, someWord, oneOf, isNil, firstBase}
 use Rattle.rules.specs.TakingApart.{Row, rows, stands, takes, someRow, isThis, listed, agreesAt, agrees, couldBe, someAgrees, admitted, firstThatHolds, oneToFive, joins, fit, initials, finals, initial, nucleus, final, leftovers, fits, verdict}
-use Rattle.rules.specs.Speller.{toneKeys, standardKeys}
+use Rattle.rules.specs.Speller.{shapeKey, toneKeys, standardKeys}
 use Rattle.rules.specs.Refusals.{isMode}
 use Rattle.rules.specs.Syllables.{bareKeys}
-use Rattle.rules.proofs.Tests.{or-l, is-true}
+use Rattle.rules.proofs.Tests.{either as or-else, or-l, is-true, some-both, some-row-both}
 use Rattle.rules.proofs.Bools.{pick, either, and-if, and-so, or-so, or-rest}
 use Rattle.forms.specs.Forms.{capitals, casedAs}
-use Rattle.forms.specs.Gained.{rowsBefore, listedBefore, verdictBefore, someAgreesBefore, admittedBefore, isNew, hornKey}
+use Rattle.forms.specs.Gained.{rowsBefore, listedBefore, verdictBefore, someAgreesBefore, admittedBefore, isNew}
 use Rattle.forms.specs.Spelling.{Gives}
 use Rattle.forms.proofs.Bridge.{byChecks, passed, parts}
 use Rattle.forms.proofs.Cases.{same-cased, same-append}
 use Rattle.forms.proofs.StandardList.{standard-list}
 
 -- a question to a table with one nucleus more, at its end
-some-last : (f : Letters → Bool) (zs : List Letters) (z : Letters) → someWord f (zs ++ (z ∷ [])) ≡ pick true (someWord f zs) (f z)
-some-last f [] z = go (f z)
-  where
-    go : (b : Bool) → pick true b false ≡ b
-    go true = refl
-    go false = refl
-some-last f (y ∷ zs) z = ap (pick true (f y)) (some-last f zs z) ∙ go (f y)
-  where
-    go : (b : Bool) → pick true b (pick true (someWord f zs) (f z)) ≡ pick true (pick true b (someWord f zs)) (f z)
-    go true = refl
-    go false = refl
-
-some-last-row : (f : Row → Letters → Bool) (rs : List Row) (r : Row) → someRow f (rs ++ (r ∷ [])) ≡ pick true (someRow f rs) (someWord (f r) (r .nuclei))
-some-last-row f [] r = go (someWord (f r) (r .nuclei))
-  where
-    go : (b : Bool) → pick true b false ≡ b
-    go true = refl
-    go false = refl
-some-last-row f (q ∷ rs) r = ap (pick true (someWord (f q) (q .nuclei))) (some-last-row f rs r) ∙ go (someWord (f q) (q .nuclei))
-  where
-    go : (b : Bool) → pick true b (pick true (someRow f rs) (someWord (f r) (r .nuclei))) ≡ pick true (pick true b (someRow f rs)) (someWord (f r) (r .nuclei))
-    go true = refl
-    go false = refl
-
 abbrev lastRow : Row
 lastRow = getD rows 7 (record { nuclei = []; ends = []; bare = false })
 
@@ -58,16 +34,21 @@ isUơ ini nuc fin = isThis ini nuc fin lastRow (word "uơ")
 abbrev lastBefore : Row
 lastBefore = getD rowsBefore 7 lastRow
 
-with-uơ : (f : Row → Letters → Bool) → ((z : Letters) → f lastRow z ≡ f lastBefore z) → someRow f rows ≡ pick true (someRow f rowsBefore) (f lastRow (word "uơ"))
+with-uơ : (f : Row → Letters → Bool) → ((z : Letters) → f lastRow z ≡ f lastBefore z) → someRow f rows ≡ (someRow f rowsBefore || f lastRow (word "uơ"))
 with-uơ f e =
-    some-last-row f (take 7 rows) lastRow ∙ ap (pick true (someRow f (take 7 rows))) (some-last (f lastRow) (lastBefore .nuclei) (word "uơ")) ∙ go (someRow f (take 7 rows)) (someWord (f lastRow) (lastBefore .nuclei)) ∙
-    ap (λ (b : Bool). pick true b (f lastRow (word "uơ"))) (ap (λ (g : Letters → Bool). pick true (someRow f (take 7 rows)) (someWord g (lastBefore .nuclei))) (λ j z. e z j) ∙ sym (some-last-row f (take 7 rows) lastBefore))
+    let others = someRow f (take 7 rows) in
+    let new = f lastRow (word "uơ") in
+    let last = some-both (f lastRow) (lastBefore .nuclei) (word "uơ" ∷ []) ∙ ap (λ (g : Letters → Bool). someWord g (lastBefore .nuclei) || pick true new false) (λ j z. e z j) in
+    some-row-both f (take 7 rows) (lastRow ∷ []) ∙ ap (λ (b : Bool). others || pick true b false) last ∙ go others (someWord (f lastBefore) (lastBefore .nuclei)) new ∙
+    ap (λ (b : Bool). b || new) (sym (some-row-both f (take 7 rows) (lastBefore ∷ [])))
   where
-    go : (a b : Bool) → pick true a (pick true b (f lastRow (word "uơ"))) ≡ pick true (pick true a b) (f lastRow (word "uơ"))
-    go true b = refl
-    go false b = refl
+    go : (a b c : Bool) → (a || pick true (b || pick true c false) false) ≡ ((a || pick true b false) || c)
+    go true b c = refl
+    go false true c = refl
+    go false false true = refl
+    go false false false = refl
 
-one-more : (ini nuc fin : Letters) → listed ini nuc fin ≡ pick true (listedBefore ini nuc fin) (isUơ ini nuc fin)
+one-more : (ini nuc fin : Letters) → listed ini nuc fin ≡ (listedBefore ini nuc fin || isUơ ini nuc fin)
 unfolding listed
 one-more ini nuc fin = with-uơ (isThis ini nuc fin) (λ z. refl)
 
@@ -123,7 +104,7 @@ unfolding someAgrees
 same-answers ini nuc fin =
     with-uơ (couldBe ini nuc fin) (λ z. refl) ∙ go (someAgreesBefore ini nuc fin) (couldBe ini nuc fin lastRow (word "uơ")) (as-ươ ini nuc fin)
   where
-    go : (a b : Bool) → (T b → T a) → pick true a b ≡ a
+    go : (a b : Bool) → (T b → T a) → (a || b) ≡ a
     go true b h = refl
     go false true h = absurd (h tt)
     go false false h = refl
@@ -167,7 +148,7 @@ module _ (w : Letters) (t : ℕ) where
   still-valid e =
       let old = listedBefore (initial w) (nucleus w) (final w) in
       let p = was-listed (sym before-by ∙ e) in
-      now-by ∙ listed-as (listed (initial w) (nucleus w) (final w)) p (rw (one-more (initial w) (nucleus w) (final w)) (or-so old (isUơ (initial w) (nucleus w) (final w)) p)) ∙ sym before-by ∙ e
+      now-by ∙ listed-as (listed (initial w) (nucleus w) (final w)) p (rw (one-more (initial w) (nucleus w) (final w)) (or-l old (isUơ (initial w) (nucleus w) (final w)) p)) ∙ sym before-by ∙ e
 
   -- what is valid was valid, or is new
   new-word : T (isNil (leftovers w)) → T (isUơ (initial w) (nucleus w) (final w)) → T (isNew w)
@@ -182,7 +163,7 @@ module _ (w : Letters) (t : ℕ) where
   kept-or-new e =
       let v = passed w t e in
       let old = listedBefore (initial w) (nucleus w) (final w) in
-      either old (isUơ (initial w) (nucleus w) (final w))
+      or-else old (isUơ (initial w) (nucleus w) (final w))
       (λ p. inl (before-by ∙ sym (listed-as (listed (initial w) (nucleus w) (final w)) p (v .list)) ∙ sym now-by ∙ e))
       (λ u. inr (new-word (v .whole) u)) (rw (sym (one-more (initial w) (nucleus w) (final w))) (v .list))
 
@@ -213,9 +194,9 @@ new-valid = new-as IsNew (λ cs t. (ap tone (any-tone t), refl)) (λ cs t. (ap t
 
 -- Its list is its letters, the horn key and the tone key; and every other syllable is typed by the list that it had, for the standard list asks no table.
 abbrev Listed : Letters → Type 0
-Listed w = (mode t : ℕ) → standardKeys mode w t ≡ bareKeys w ++ (hornKey mode ∷ toneKeys mode t)
+Listed w = (mode t : ℕ) → standardKeys mode w t ≡ bareKeys w ++ (shapeKey mode (named (code "ơ")) ∷ toneKeys mode t)
 
-pub new-lists : (w : Letters) → T (isNew w) → (mode t : ℕ) → standardKeys mode w t ≡ bareKeys w ++ (hornKey mode ∷ toneKeys mode t)
+pub new-lists : (w : Letters) → T (isNew w) → (mode t : ℕ) → standardKeys mode w t ≡ bareKeys w ++ (shapeKey mode (named (code "ơ")) ∷ toneKeys mode t)
 unfolding standardKeys
 new-lists = new-as Listed (λ cs mode t. refl) (λ cs mode t. refl) (λ cs mode t. refl)
 

@@ -2,9 +2,8 @@
 use mathlib.Core.Bool.{Bool, true, false}
 use mathlib.Core.List.{List, [], _∷_, _++_, map}
 use Prim.Native.Nat.{ℕ}
-use Prim.Native.Char.{code}
 use lib.Dec.{eqb}
-use Rattle.rules.specs.Letters.{Letters, telex, word, words, same, oneOf}
+use Rattle.rules.specs.Letters.{Letters, word, words, same, oneOf}
 use Rattle.rules.specs.TakingApart.{Row, rows, someRow, isThis, couldBe, initial, nucleus, final, firstThatHolds, oneToFive, sixAndSeven}
 
 abbrev pub withoutUơ : List Letters → List Letters
@@ -31,6 +30,3 @@ admittedBefore w = elim (eqb (firstThatHolds (oneToFive w)) 0) [ true ↦ someAg
 -- the words that are new, in any case
 abbrev pub isNew : Letters → Bool
 isNew w = oneOf w (words "huơ khuơ thuơ")
-
-abbrev pub hornKey : ℕ → ℕ
-hornKey mode = elim (eqb mode telex) [ true ↦ code "w" | false ↦ code "7" ]

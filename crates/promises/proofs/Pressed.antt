@@ -10,7 +10,7 @@ use lib.ListN.{length}
 use Rattle.rules.specs.TheWord.{mostKeys, State, Typed, wordOf, atFront, holding, outcomeOf}
 use Rattle.rules.specs.KeyRoles.{keyDoes, type}
 use Rattle.rules.specs.CodePoints.{shown}
-use Rattle.rules.specs.Refusals.{Keys, tooManyKeys, notAllKeys, placeOfByte, outOfRange, table, refusal}
+use Rattle.rules.specs.Refusals.{Keys, tooManyKeys, notAllKeys, placeOfByte, outOfRange, refusal}
 use Rattle.rules.specs.WhatComesBack as Rules
 use Rattle.rules.specs.WhatComesBack.{stepCall, writeOr, step, show, Written}
 use Rattle.rules.specs.declared.Word.{Word}

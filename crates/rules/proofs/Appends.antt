@@ -8,8 +8,8 @@ use Prim.Native.Char.{code}
 use lib.Dec.{T, eqb}
 use lib.Ieee.Fits.{and-l, and-r}
 use Rattle.rules.specs.Letters.{Letter, Letters, plain, horn, noTone, among, words, oneOf, named, is}
-use Rattle.rules.specs.TheWord.{State, Typed, Done, appended, stateOf, outcomeOf, isAppended}
-use Rattle.rules.specs.KeyRoles.{letterOfKey, role, shaped, awaitsSecondHorn, takesSecondHorn, hornOnU, hornOnUIf, append, undoIf, actIf, toneGoes, Edit, nothing, shapeEdit, strokeEdit, editDoes, roleDoes, unlessClosed, keyDoes}
+use Rattle.rules.specs.TheWord.{State, Typed, Done, stateOf, outcomeOf, isAppended}
+use Rattle.rules.specs.KeyRoles.{letterOfKey, role, shaped, awaitsSecondHorn, asksSecondHorn, takesSecondHorn, hornOnU, hornOnUIf, append, undoIf, actIf, toneGoes, Edit, nothing, shapeEdit, strokeEdit, editDoes, roleDoes, unlessClosed, keyDoes}
 use Rattle.rules.specs.Appending.{UHorned, OneCase}
 use Rattle.rules.specs.declared.Role.{Role}
 use Rattle.rules.specs.declared.Role.the-variants.{ToneRole, ShapeRole, StrokeRole, NoRole}
@@ -87,8 +87,8 @@ module _ (s : State) (k : Letter) where
       go false e = inl (record { no-horn = rw e tt; then = refl })
       go true e =
           let t : T (takesSecondHorn s k) = rw e tt in
-          let both = and-r (not (s .closed)) (awaitsSecondHorn (s .letters) && among (k .base) "iucmnpt") t in
-          inr (put-on (and-l (not (s .closed)) (awaitsSecondHorn (s .letters) && among (k .base) "iucmnpt") t) (and-l (awaitsSecondHorn (s .letters)) (among (k .base) "iucmnpt") both) (and-r (awaitsSecondHorn (s .letters)) (among (k .base) "iucmnpt") both))
+          let both = and-r (not (s .closed)) (awaitsSecondHorn (s .letters) && asksSecondHorn (k .base)) t in
+          inr (put-on (and-l (not (s .closed)) (awaitsSecondHorn (s .letters) && asksSecondHorn (k .base)) t) (and-l (awaitsSecondHorn (s .letters)) (asksSecondHorn (k .base)) both) (and-r (awaitsSecondHorn (s .letters)) (asksSecondHorn (k .base)) both))
 
 -- a key that is appended leaves what appending leaves
 appended-edit : (e : Edit) (s : State) (k : Letter) → T (isAppended (outcomeOf (editDoes e s k))) → stateOf (editDoes e s k) ≡ append s k

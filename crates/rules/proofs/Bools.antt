@@ -40,6 +40,10 @@ pub or-assoc : (a b c : Bool) → ((a || b) || c) ≡ (a || (b || c))
 or-assoc true b c = refl
 or-assoc false b c = refl
 
+pub or-pick : (a b c : Bool) → pick true a (b || c) ≡ (pick true a b || c)
+or-pick true b c = refl
+or-pick false b c = refl
+
 -- a choice that holds: both of two tests, one of two
 pub and-if : (b c : Bool) → T (ifSo b c) → T b × T c
 and-if true c t = (tt, t)

@@ -66,18 +66,21 @@ vniRoles =
 abbrev pub role : ℕ → ℕ → Role
 role mode k = elim (eqb mode telex) [ true ↦ roleIn telexRoles (lower k) | false ↦ elim (eqb mode vni) [ true ↦ roleIn vniRoles (lower k) | false ↦ NoRole ] ]
 
--- 6.10 A letter that is put into another shape keeps its base and its case.
+-- 6.6 A letter that is put into another shape keeps its base and its case.
 abbrev pub shaped : ℕ → Letter → Letter
 shaped sh x = record { base = x .base; shape = sh; capital = x .capital }
 
--- 6.6 An appended key is one more letter at the end. Letters and shapes before it and the number of the tone stay as
+-- 6.7 An appended key is one more letter at the end. Letters and shapes before it and the number of the tone stay as
 -- they are, but in one case: an i, u, c, m, n, p or t, small or capital, that is appended to an open word huơ, khuơ
 -- or thuơ puts the horn on the u too.
 abbrev pub awaitsSecondHorn : Letters → Bool
 awaitsSecondHorn w = oneOf w (words "huơ khuơ thuơ")
 
+abbrev pub asksSecondHorn : ℕ → Bool
+asksSecondHorn b = among b "iucmnpt"
+
 abbrev pub takesSecondHorn : State → Letter → Bool
-takesSecondHorn s k = not (s .closed) && (awaitsSecondHorn (s .letters) && among (k .base) "iucmnpt")
+takesSecondHorn s k = not (s .closed) && (awaitsSecondHorn (s .letters) && asksSecondHorn (k .base))
 
 abbrev pub hornOnU : Letters → Letters
 hornOnU [] = []
@@ -90,7 +93,7 @@ hornOnUIf false w = w
 abbrev pub append : State → Letter → State
 append s k = record { letters = hornOnUIf (takesSecondHorn s k) (s .letters) ++ (k ∷ []); tone = s .tone; closed = s .closed }
 
--- 6.7 An undo takes off the tone or the shape that its key stands for. The key then becomes a plain letter at the
+-- 6.8 An undo takes off the tone or the shape that its key stands for. The key then becomes a plain letter at the
 -- end, and the word is closed.
 abbrev pub close : State → State
 close s = record { letters = s .letters; tone = s .tone; closed = true }
@@ -104,7 +107,7 @@ withTone s t = record { letters = s .letters; tone = t; closed = s .closed }
 abbrev pub undo : State → Letter → State
 undo s k = append (close s) k
 
--- 6.8 A tone key undoes where the word has its tone. Else, where the letters are admitted and its tone fits their
+-- 6.9 A tone key undoes where the word has its tone. Else, where the letters are admitted and its tone fits their
 -- final, it sets the tone, in place of any other. Else it is appended.
 abbrev pub undoIf : Bool → State → Done → Done
 undoIf true s d = undone s
@@ -119,7 +122,7 @@ toneGoes t w = admitted w && fits (final w) t
 
 abbrev pub toneDoes : ToneKey → State → Letter → Done
 toneDoes (SetTone t) s k = undoIf (eqb (s .tone) t) (undo (withTone s noTone) k) (actIf (toneGoes t (s .letters)) (Tone t) (withTone s t) (append s k))
--- 6.9 A clear key acts where the tone is not 0, and makes it 0. Where it is 0 the key is appended.
+-- 6.10 A clear key acts where the tone is not 0, and makes it 0. Where it is 0 the key is appended.
 toneDoes ClearTone s k = actIf (not (eqb (s .tone) noTone)) Clear (withTone s noTone) (append s k)
 
 -- 6.11 A shape key looks for its target among all letters of the word, by their bases and in any shape. It finds
@@ -175,7 +178,7 @@ isA x = among x "a"
 abbrev pub breved : Letters → Found
 breved w = last isA breve w
 
--- 6.21 Where the word is h, kh or th, a plain u and an o in any shape, and no more, a horn key aims at this o alone.
+-- 6.14 Where the word is h, kh or th, a plain u and an o in any shape, and no more, a horn key aims at this o alone.
 abbrev pub isO : ℕ → Bool
 isO x = among x "o"
 
@@ -185,8 +188,8 @@ hornsOAlone w = oneOf w (words "huo khuo thuo huô khuô thuô huơ khuơ thuơ"
 abbrev pub oAlone : Letters → Found
 oAlone w = ifSo (hornsOAlone w) (last isO horn w)
 
--- 6.14 A horn key aims at a pair, the first u with an o directly after it and no q directly before it; the horn goes
--- on both.
+-- 6.15 Else it aims at a pair, the first u with an o directly after it and no q directly before it; the horn goes on
+-- both.
 abbrev pub isQ : Letter → Bool
 isQ x = eqb (x .base) (code "q")
 
@@ -203,7 +206,7 @@ abbrev pub pair : Bool → Letters → Found
 pair afterQ [] = nowhere
 pair afterQ (x ∷ xs) = orElse (pairHere afterQ x xs) (behind x (pair (isQ x) xs))
 
--- 6.15 Without such a pair it aims at the first letter that is an o or a u and has no q directly before it.
+-- 6.16 Without such a pair it aims at the first letter that is an o or a u and has no q directly before it.
 abbrev pub isSingle : Bool → ℕ → Bool
 isSingle afterQ b = among b "ou" && not afterQ
 
@@ -214,7 +217,7 @@ single afterQ (x ∷ xs) = orElse (ifSo (isSingle afterQ (x .base)) (here horn x
 abbrev pub horned : Letters → Found
 horned w = orElse (oAlone w) (orElse (pair false w) (single false w))
 
--- 6.16 A shape key without a target is appended. One whose target has the shape undoes it; of a pair both letters
+-- 6.17 A shape key without a target is appended. One whose target has the shape undoes it; of a pair both letters
 -- must have it, and both lose it. Else it acts where all letters of the word, with the new shape on the whole target,
 -- are admitted. Where they are not it is appended.
 pub data Edit : Type 0 where
@@ -231,7 +234,7 @@ asked sh nowhere = nothing
 asked sh (already w) = off w
 asked sh (fresh w) = onlyIf (admitted w) (change (Shape sh) w)
 
--- 6.17 Telex w does what the horn rule says, undo or act; where that would append it, what the breve rule says of the
+-- 6.18 Telex w does what the horn rule says, undo or act; where that would append it, what the breve rule says of the
 -- same letters; where that would too, it is appended.
 abbrev pub first : Edit → Edit → Edit
 first nothing e = e
@@ -245,7 +248,7 @@ shapeEdit Breve w = asked breve (breved w)
 shapeEdit Horn w = asked horn (horned w)
 shapeEdit HornBreve w = first (asked horn (horned w)) (asked breve (breved w))
 
--- 6.18 A stroke key undoes where the first letter is đ, whatever follows it. Where it is d, the key puts the stroke
+-- 6.19 A stroke key undoes where the first letter is đ, whatever follows it. Where it is d, the key puts the stroke
 -- on it if that is the only letter or the letters are admitted. Else it is appended.
 abbrev pub strokeEdit : Letters → Edit
 strokeEdit [] = nothing
@@ -253,7 +256,7 @@ strokeEdit (x ∷ xs) =
     first (onlyIf (is x (named (code "đ"))) (off (shaped plain x ∷ xs)))
     (onlyIf (is x (named (code "d")) && (isNil xs || admitted (x ∷ xs))) (change Stroke (shaped stroke x ∷ xs)))
 
--- 6.19 A shape or stroke key that takes a mark off is an undo, one that puts a mark on acts, and one that does
+-- 6.20 A shape or stroke key that takes a mark off is an undo, one that puts a mark on acts, and one that does
 -- neither is appended.
 abbrev pub editDoes : Edit → State → Letter → Done
 editDoes nothing s k = appended (append s k)
@@ -275,7 +278,7 @@ unlessClosed false r s k = roleDoes r s k
 abbrev pub keyDoes : Typed → ℕ → Done
 keyDoes z k = unlessClosed (z .state .closed) (role (z .mode) k) (z .state) (letterOfKey k)
 
--- 6.20 Keys of a list are typed one after the other, each into the word that those before it made.
+-- 6.21 Keys of a list are typed one after the other, each into the word that those before it made.
 abbrev pub type : Typed → ℕ → Typed
 type z k = counted z k (keyDoes z k)
 

@@ -87,11 +87,6 @@ abbrev pub writeOr : Option Refusal → List ℕ → List ℕ → Written
 writeOr none text out = record { answer = Wrote (length text); output = atFront text out }
 writeOr (some r) text out = record { answer = WriteRefused r; output = out }
 
--- 2.13 A call that is handed a text to write and an output, and nothing else, is refused only where the output is too
--- short.
-abbrev pub roomCall : List ℕ → List ℕ → Call
-roomCall text out = record { record? = none; mode? = none; keys? = none; text? = none; room? = some (record { needed = length text; there = length out }) }
-
 -- 2.5 Show is handed a word and an output, and writes the text that the word shows.
 abbrev pub showCall : Word → List ℕ → Call
 showCall w out = record { record? = some w; mode? = none; keys? = none; text? = none; room? = some (record { needed = length (shown (wordOf w .state)); there = length out }) }
@@ -160,3 +155,8 @@ spellCall m text out =
 
 unfoldable pub spell : ℕ → List ℕ → List ℕ → Written
 spell m text out = writeOr (refusal (spellCall m text out)) (keysOf m (read text)) out
+
+-- 2.13 A call that is handed a text to write and an output, and nothing else, is refused only where the output is too
+-- short.
+abbrev pub roomCall : List ℕ → List ℕ → Call
+roomCall text out = record { record? = none; mode? = none; keys? = none; text? = none; room? = some (record { needed = length text; there = length out }) }

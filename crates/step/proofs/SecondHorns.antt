@@ -7,10 +7,10 @@ use native.Mathlib.Omega.{arith}
 use lib.Dec.{T, leb, leb→le, lit<}
 use lib.Ieee.Fits.{and-r}
 use lib.ListN.{take, drop, set, getD, length-append, length-map}
-use Rattle.rules.specs.Letters.{Letter, Letters, plain, horn, characters, among}
+use Rattle.rules.specs.Letters.{Letter, Letters, plain, horn, characters}
 use Rattle.rules.specs.Refusals.{all}
 use Rattle.rules.specs.TheWord.{State, appended, letter, number, atFront}
-use Rattle.rules.specs.KeyRoles.{isCapital, lowerIf, lower, letterOfKey, roleIn, telexRoles, vniRoles, role, shaped, awaitsSecondHorn, takesSecondHorn, hornOnU, hornOnUIf, append}
+use Rattle.rules.specs.KeyRoles.{isCapital, lowerIf, lower, letterOfKey, roleIn, telexRoles, vniRoles, role, shaped, awaitsSecondHorn, asksSecondHorn, takesSecondHorn, hornOnU, hornOnUIf, append}
 use Rattle.rules.specs.declared.Role.{Role}
 use Rattle.rules.specs.declared.Role.the-variants.{ToneRole, ShapeRole, StrokeRole, NoRole}
 use Rattle.rules.proofs.Bools.{and-false}
@@ -72,7 +72,7 @@ module _ (l : List ℕ) (rest : Rest) where
     abbrev takes : Bool
     takes = takesSecondHorn (stateIn l rest) k
 
-    by-questions : {a b c : Bool} → rest .closed ≡ a → awaitsSecondHorn (stateIn l rest .letters) ≡ b → among (k .base) "iucmnpt" ≡ c → takes ≡ (not a && (b && c))
+    by-questions : {a b c : Bool} → rest .closed ≡ a → awaitsSecondHorn (stateIn l rest .letters) ≡ b → asksSecondHorn (k .base) ≡ c → takes ≡ (not a && (b && c))
     by-questions p q r j = not (p j) && (q j && r j)
 
     pub takes-none : awaitsSecondHorn (stateIn l rest .letters) ≡ false → takes ≡ false
@@ -81,14 +81,14 @@ module _ (l : List ℕ) (rest : Rest) where
     pub takes-closed : rest .closed ≡ true → takes ≡ false
     takes-closed p = by-questions p refl refl
 
-    pub takes-other : among (k .base) "iucmnpt" ≡ false → takes ≡ false
+    pub takes-other : asksSecondHorn (k .base) ≡ false → takes ≡ false
     takes-other r = by-questions refl refl r ∙ ap (λ (b : Bool). not (rest .closed) && b) (sym (and-false (awaitsSecondHorn (stateIn l rest .letters)))) ∙ sym (and-false (not (rest .closed)))
 
-    pub takes-it : rest .closed ≡ false → awaitsSecondHorn (stateIn l rest .letters) ≡ true → among (k .base) "iucmnpt" ≡ true → takes ≡ true
+    pub takes-it : rest .closed ≡ false → awaitsSecondHorn (stateIn l rest .letters) ≡ true → asksSecondHorn (k .base) ≡ true → takes ≡ true
     takes-it p q r = by-questions p q r
 
     waiting : takes ≡ true → awaitsSecondHorn (stateIn l rest .letters) ≡ true
-    waiting e = go (rest .closed) (awaitsSecondHorn (stateIn l rest .letters)) (among (k .base) "iucmnpt") e
+    waiting e = go (rest .closed) (awaitsSecondHorn (stateIn l rest .letters)) (asksSecondHorn (k .base)) e
       where
         go : (a b c : Bool) → (not a && (b && c)) ≡ true → b ≡ true
         go false true c e = refl
@@ -112,12 +112,12 @@ lower-small k h = go (isCapital k) refl
     go true e = let u = leb→le k 90 (and-r (leb 65 k) (leb k 90) (rw e tt)) in omega arith
     go false e = h
 
-pub by-base : (k : ℕ) → k < 256 → {n b : ℕ} {q r : Bool} → n ≡ number (letterOfKey k) → b ≡ letter n .base → q ≡ among b "iucmnpt" → q ≡ r → among (letterOfKey k .base) "iucmnpt" ≡ r
+pub by-base : (k : ℕ) → k < 256 → {n b : ℕ} {q r : Bool} → n ≡ number (letterOfKey k) → b ≡ letter n .base → q ≡ asksSecondHorn b → q ≡ r → asksSecondHorn (letterOfKey k .base) ≡ r
 by-base k h e f g t =
-    ap (λ (x : Letter). among (x .base) "iucmnpt") (sym (of-number (lower k) plain (isCapital k) (lower-small k h) (lit< tt)) ∙ ap letter (sym e)) ∙ ap (λ (b : ℕ). among b "iucmnpt") (sym f) ∙ sym g ∙ t
+    ap (λ (x : Letter). asksSecondHorn (x .base)) (sym (of-number (lower k) plain (isCapital k) (lower-small k h) (lit< tt)) ∙ ap letter (sym e)) ∙ ap (λ (b : ℕ). asksSecondHorn b) (sym f) ∙ sym g ∙ t
 
 -- another letter puts none on
-pub plainly : (s : State) (k : Letter) → among (k .base) "iucmnpt" ≡ false → append s k ≡ appendedPlainly s k
+pub plainly : (s : State) (k : Letter) → asksSecondHorn (k .base) ≡ false → append s k ≡ appendedPlainly s k
 plainly s k r =
     ap (λ (b : Bool). record { letters = hornOnUIf b (s .letters) ++ (k ∷ []); tone = s .tone; closed = s .closed })
     (ap (λ (b : Bool). not (s .closed) && (awaitsSecondHorn (s .letters) && b)) r ∙ ap (λ (b : Bool). not (s .closed) && b) (sym (and-false (awaitsSecondHorn (s .letters)))) ∙ sym (and-false (not (s .closed))))
@@ -129,10 +129,10 @@ isNone (ShapeRole h) = false
 isNone StrokeRole = false
 isNone NoRole = true
 
-none-in : (rs : List (ℕ × Role)) → T (all (λ b. isNone (roleIn rs b)) (characters "iucmnpt")) → (b : ℕ) → T (among b "iucmnpt") → T (isNone (roleIn rs b))
+none-in : (rs : List (ℕ × Role)) → T (all (λ b. isNone (roleIn rs b)) (characters "iucmnpt")) → (b : ℕ) → T (asksSecondHorn b) → T (isNone (roleIn rs b))
 none-in rs h b t = of-elem (λ c. isNone (roleIn rs c)) b (characters "iucmnpt") h t
 
-no-role : (mode key : ℕ) → T (among (lower key) "iucmnpt") → T (isNone (role mode key))
+no-role : (mode key : ℕ) → T (asksSecondHorn (lower key)) → T (isNone (role mode key))
 no-role mode key t = of-role isNone mode key (none-in telexRoles tt (lower key) t) (none-in vniRoles tt (lower key) t) tt
 
 in-closed : (b : Bool) (r : Role) → T (isNone r) → T (isNone (unlessClosedRole b r))
@@ -140,7 +140,7 @@ in-closed true r t = tt
 in-closed false r t = t
 
 pub by-its-role : (closed : Bool) (mode key : ℕ) {q r : Role} → q ≡ unlessClosedRole closed (role mode key) → q ≡ r → T (not (isNone r)) → NoSecondHorn key
-by-its-role closed mode key {q} {r} e g n = go (among (lower key) "iucmnpt") (no-role mode key)
+by-its-role closed mode key {q} {r} e g n = go (asksSecondHorn (lower key)) (no-role mode key)
   where
     never : T (isNone (role mode key)) → T (isNone r)
     never t = subst (λ (x : Role). T (isNone x)) (sym e ∙ g) (in-closed closed (role mode key) t)

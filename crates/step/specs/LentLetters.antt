@@ -5,10 +5,10 @@ use mathlib.Core.List.{List, [], _∷_, _++_, map}
 use Prim.Native.Nat.{ℕ, _+_, _≤_, _<_}
 use Prim.Native.Char.{code}
 use lib.ListN.{length, take, set}
-use Rattle.rules.specs.Letters.{Letter, small, among}
+use Rattle.rules.specs.Letters.{Letter, small}
 use Rattle.rules.specs.TheWord.{State, Done, acted, undone, appended, stateOf, outcomeOf, oneMore, isActed, isUndone, isAppended, mostKeys, letter, number, atFront}
 use Rattle.rules.specs.KeyRoles as Rules
-use Rattle.rules.specs.KeyRoles.{letterOfKey, takesSecondHorn, hornOnUIf, append, undo, nothing, off, change}
+use Rattle.rules.specs.KeyRoles.{letterOfKey, asksSecondHorn, takesSecondHorn, hornOnUIf, append, undo, nothing, off, change}
 use Rattle.rules.specs.declared.Role.{Role}
 use Rattle.rules.specs.declared.Role.the-variants.{NoRole}
 use Rattle.rules.specs.declared.Outcome.{Outcome}
@@ -81,7 +81,7 @@ appendedPlainly s k = record { letters = s .letters ++ (k ∷ []); tone = s .ton
 
 -- a key that never puts the second horn on: none of the seven letters
 abbrev pub NoSecondHorn : ℕ → Type 0
-NoSecondHorn key = among (letterOfKey key .base) "iucmnpt" ≡ false
+NoSecondHorn key = asksSecondHorn (letterOfKey key .base) ≡ false
 
 -- the array once an appended letter has put the second horn on, where it does
 abbrev pub withSecondHorn : List ℕ → Rest → Letter → List ℕ

@@ -14,9 +14,8 @@ ghost use mathlib.Core.Path.{_≡_};
 ghost use mathlib.Core.Bool.{true, false};
 ghost use Prim.Native.Nat.{_≤_, _<_};
 ghost use lib.ListN.{length};
-ghost use Rattle.rules.specs.Letters.{among};
 ghost use Rattle.rules.specs.TheWord.{mostKeys, appended as appendedOf, undone as undoneOf};
-ghost use Rattle.rules.specs.KeyRoles.{letterOfKey, undo as undoOf, toneDoes, unlessClosed, role as roleOf, isKey};
+ghost use Rattle.rules.specs.KeyRoles.{letterOfKey, asksSecondHorn, undo as undoOf, toneDoes, unlessClosed, role as roleOf, isKey};
 ghost use Rattle.rules.specs.Refusals.{outOfRange};
 ghost use Rattle.rules.specs.LettersOfAMode.{AllFine};
 ghost use Rattle.rules.specs.WhatComesBack.{step as stepOf};
@@ -154,7 +153,7 @@ fn role_in(closed: bool, mode: u8, key: u8) -> Role
 
 // The letters that, after huơ, ask for the horn on its u too.
 fn asks_second_horn(b: u8) -> bool
-    ensures { λ r. ⌜ r ≡ among b "iucmnpt" ⌝ }
+    ensures { λ r. ⌜ r ≡ asksSecondHorn b ⌝ }
 {
     (b == b'i')
         | ((b == b'u')

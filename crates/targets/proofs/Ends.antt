@@ -11,15 +11,8 @@ use Rattle.rules.specs.Letters.{Letter, Letters, plain, circumflex, horn, words
 use Rattle.rules.specs.TheWord.{letter}
 use Rattle.rules.specs.KeyRoles.{hornsOAlone}
 use Rattle.rules.proofs.Bools.{pick, ifSo, and-false}
+use Rattle.rules.proofs.Tests.{some-both}
 use Rattle.rules.proofs.Words.{endedBy, one-ended, empty-one}
-
-one-of-both : (w : Letters) (xs ys : List Letters) → oneOf w (xs ++ ys) ≡ (oneOf w xs || oneOf w ys)
-one-of-both w [] ys = refl
-one-of-both w (x ∷ xs) ys = go (same w x) (one-of-both w xs ys)
-  where
-    go : (b : Bool) {c : Bool} → c ≡ (oneOf w xs || oneOf w ys) → pick true b c ≡ (pick true b (oneOf w xs) || oneOf w ys)
-    go true e = refl
-    go false e = e
 
 -- letters read off numbers, but the last, and the last
 module _ (s : List ℕ) (some : 0 < length s) where
@@ -64,8 +57,8 @@ module _ (s : List ℕ) (some : 0 < length s) where
 
   o-alone : hornsOAlone (map letter s) ≡ (endsInO && oneOf front (words "hu khu thu"))
   o-alone =
-      one-of-both (map letter s) (huos plain) (huos circumflex ++ huos horn) ∙
-      ap (λ (b : Bool). oneOf (map letter s) (huos plain) || b) (one-of-both (map letter s) (huos circumflex) (huos horn)) ∙
+      some-both (same (map letter s)) (huos plain) (huos circumflex ++ huos horn) ∙
+      ap (λ (b : Bool). oneOf (map letter s) (huos plain) || b) (some-both (same (map letter s)) (huos circumflex) (huos horn)) ∙
       (λ j. by-o plain j || (by-o circumflex j || by-o horn j)) ∙
       go (is (letter end) (small (code "o") plain)) (is (letter end) (small (code "o") circumflex)) (is (letter end) (small (code "o") horn)) (oneOf front (words "hu khu thu"))
     where

@@ -4,7 +4,7 @@
  * WHAT IT DOES
  * The keyboard sends plain keys, and marks are typed as further keys: in Telex mode the keys v i e e j t
  * show the six bytes of one word, v i and a letter e with two marks and t. The library keeps one word as
- * 104 bytes that the caller lends to each call. Feed it one key at a time; after each key ask what to
+ * 169 bytes that the caller lends to each call. Feed it one key at a time; after each key ask what to
  * show. At the end of the word ask whether to keep the shown text or to hand back the raw keys.
  *
  *     unsigned char word[FZ_WORD], text[FZ_TEXT];
@@ -36,10 +36,10 @@
 #ifndef FELCANTUZZA_H
 #define FELCANTUZZA_H
 
-#define FZ_VERSION "0.16"
+#define FZ_VERSION "0.17"
 
 /* Lengths in bytes. */
-#define FZ_WORD 104 /* a word */
+#define FZ_WORD 169 /* a word */
 #define FZ_KEYS 32  /* the keys of a word at most */
 #define FZ_TEXT 96  /* a text at most: an output of this length is never too short */
 #define FZ_LIST 9   /* the keys of a standard list at most */
@@ -49,19 +49,30 @@
 #define FZ_VNI 1   /* by digits */
 
 /*
- * THE WORD: 104 bytes. What stands at which place. fz_start writes one. A caller may read it, store it and lend it again;
+ * THE WORD: 169 bytes. What stands at which place. fz_start writes one. A caller may read it, store it and lend it again;
  * there is no other state. The raw keys, to be handed back, are word[FZ_AT_KEY_COUNT] bytes from word + FZ_AT_KEYS.
+ * Bytes past the counts are not read, and stay as they were until a key or a letter comes there.
  */
-#define FZ_AT_MODE 0         /* FZ_TELEX or FZ_VNI */
-#define FZ_AT_LETTER_COUNT 1 /* how many letters, at most 32 */
-#define FZ_AT_TONE 2         /* FZ_NO_TONE to FZ_DOT, one for the whole word */
-#define FZ_AT_MARK 3         /* FZ_OPEN or FZ_CLOSED */
-#define FZ_AT_KEY_COUNT 4    /* how many keys were typed, at most 32: the sum of the next three */
-#define FZ_AT_ACTED 5        /* how many of them set a mark or cleared the tone */
-#define FZ_AT_UNDONE 6       /* how many undid a mark */
-#define FZ_AT_APPENDED 7     /* how many were added as letters */
-#define FZ_AT_KEYS 8         /* to 39: the keys as typed, one byte each */
-#define FZ_AT_LETTERS 40     /* to 103: the letters, two bytes each, low byte first */
+#define FZ_AT_MODE 0          /* FZ_TELEX or FZ_VNI */
+#define FZ_AT_LETTER_COUNT 1  /* how many letters, at most 32 */
+#define FZ_AT_TONE 2          /* FZ_NO_TONE to FZ_DOT, one for the whole word */
+#define FZ_AT_MARK 3          /* FZ_OPEN or FZ_CLOSED */
+#define FZ_AT_KEY_COUNT 4     /* how many keys were typed, at most 32: the sum of the next three */
+#define FZ_AT_ACTED 5         /* how many of them set a mark or cleared the tone */
+#define FZ_AT_UNDONE 6        /* how many undid a mark */
+#define FZ_AT_APPENDED 7      /* how many were added as letters */
+#define FZ_AT_KEYS 8          /* to 39: the keys as typed, one byte each */
+#define FZ_AT_LETTERS 40      /* to 103: the letters, two bytes each, low byte first */
+#define FZ_AT_APPENDED_BY 104 /* to 135: for each letter the key that added it */
+#define FZ_AT_SHAPED_BY 136   /* to 167: for each letter the last key that put a shape on it, or FZ_NO_KEY */
+#define FZ_AT_TONED_BY 168    /* the last key that set the tone, or FZ_NO_KEY */
+
+/*
+ * WHICH KEY MADE WHICH LETTER. The bytes from 104 on name a key by its place among the keys, from 0: the letter at place i was added by
+ * the key word[FZ_AT_KEYS + word[FZ_AT_APPENDED_BY + i]]. A key that shapes two letters at once has its place at both. A key that is added
+ * as a letter may also shape one before it, in Telex the n of t h u o w n the u. Where a mark is undone or cleared no key is named.
+ */
+#define FZ_NO_KEY 255 /* no key shaped the letter, or set the tone */
 
 /* A closed word takes every further key as a plain letter. */
 #define FZ_OPEN 0
@@ -100,10 +111,11 @@
 #define FZ_REFUSED_TEXT 5     /* the text is not exactly what the keys show: 0 */
 #define FZ_REFUSED_LETTER 6   /* a byte of the text where no letter of the Vietnamese or the English alphabet starts: its place, from 0 */
 #define FZ_REFUSED_SYLLABLE 7 /* the text is no syllable as it would be shown: FZ_TWO_TONES; else the verdict, 1 to 7; else FZ_TONE_ELSEWHERE */
-#define FZ_REFUSED_WORD 8     /* the word is not 104 bytes, its mark is neither 0 nor 1, or it is out of range: 0 */
+#define FZ_REFUSED_WORD 8     /* the word is not 169 bytes, its mark is neither 0 nor 1, or it is out of range: 0 */
 /*
  * Out of range: a count over 32, more letters than keys, counts at 5 to 7 that do not add up to the keys, a key or letter that the mode
- * does not have, a shape that its letter cannot carry, a digit as a capital, a tone or mode that does not exist.
+ * does not have, a shape that its letter cannot carry, a digit as a capital, a tone or mode that does not exist; a key's place, of the
+ * tone or of a letter below the count, that is not below the number of keys, unless it is FZ_NO_KEY for a shape or for the tone.
  */
 
 /* Verdicts: is it a Vietnamese syllable, or what is the first thing wrong? */
@@ -145,7 +157,7 @@ typedef char fz_unsigned_long_has_8_bytes[sizeof(unsigned long) == 8 ? 1 : -1];
 extern "C" {
 #endif
 
-/* A new word in a mode. Value: 0. Refusals: 8 (here only for a length other than 104), 1. Overlap: none. */
+/* A new word in a mode. Value: 0. Refusals: 8 (here only for a length other than 169), 1. Overlap: none. */
 unsigned char fz_start(unsigned char mode, unsigned char *word, unsigned long word_length, unsigned long *value);
 
 /* One key typed. Value: what the key did. Refusals: 8, 2, 3. Overlap: none. */

@@ -1,6 +1,6 @@
 /*
- * The library as the box links it: types, numbers and macros of the header, the record byte by byte, words typed key by key and what each key did,
- * every refusal, show, commit, also of keys and a text that overlap, and spelling. One line for each check that fails.
+ * The library as the box links it: types, numbers and macros of the header, the record byte by byte, words typed key by key, what each key did and which
+ * key made which letter, every refusal, show, commit, also of keys and a text that overlap, and spelling. One line for each check that fails.
  *
  * VERSION, what the file of that name at the repository's root says, is defined where this is compiled.
  */
@@ -60,12 +60,35 @@ static void fill(unsigned char *to, unsigned long n, unsigned char with) {
 /* What a call that is still to write its value must not leave there. */
 #define UNWRITTEN 4711
 
+/* A place that is no key's, in numbers and not by the header's name. */
+enum { NONE = 255 };
+
+/* The places of keys in a word that was typed: a letter's own key added it, after the key of the letter before; a key shaped it exactly where it has a shape, and set
+   the tone exactly where there is one. Behind the letters all is as in a new word. */
+static void check_places(const unsigned char *word, const char *keys) {
+    for (unsigned long i = 0; i < 32; i++) {
+        const unsigned char by = word[104 + i], shaper = word[136 + i];
+        if (i >= word[1]) {
+            check(by == 0 && shaper == 0, "no places behind the letters", keys);
+            continue;
+        }
+        check(by < word[4] && (i == 0 || word[103 + i] < by), "a letter's key comes after that of the letter before", keys);
+        if (by < word[4]) {
+            const unsigned char key = word[8 + by], capital = key >= 'A' && key <= 'Z';
+            check(word[40 + 2 * i] == (capital ? key + 32 : key) && word[41 + 2 * i] / 8 == capital, "a letter is added by its own key", keys);
+        }
+        check((shaper == NONE) == (word[41 + 2 * i] % 8 == 0) && (shaper == NONE || shaper < word[4]), "a key shaped the letters that have a shape, and no other", keys);
+    }
+    check((word[168] == NONE) == (word[2] == 0) && (word[168] == NONE || word[168] < word[4]), "a key set the tone where there is one", keys);
+}
+
 /* The keys typed into a new word by fz_type_and_show, and beside it by fz_type and fz_show: both say the same of the key, and leave the same word and the same text. */
 static unsigned long type_all(unsigned char mode, const char *keys, unsigned char *word, unsigned char *text) {
     unsigned char other[FZ_WORD], shown[FZ_TEXT];
     unsigned long n = UNWRITTEN, m = UNWRITTEN, did, typed;
     check(fz_start(mode, word, FZ_WORD, &n) == 0 && n == 0, "a new word", keys);
     copy(other, word, FZ_WORD);
+    check_places(word, keys);
     check(fz_show(word, FZ_WORD, text, FZ_TEXT, &n) == 0 && n == 0, "a new word shows nothing", keys);
     for (unsigned long i = 0; keys[i]; i++) {
         fill(text, FZ_TEXT, '#');
@@ -79,6 +102,7 @@ static unsigned long type_all(unsigned char mode, const char *keys, unsigned cha
         check(same(word, other, FZ_WORD), "one call and two leave the same word", keys);
         check(word[4] == i + 1 && word[8 + i] == (unsigned char)keys[i], "the key is kept", keys);
         check(word[5] + word[6] + word[7] == word[4], "the counts add up", keys);
+        check_places(word, keys);
         for (unsigned long j = n; j < FZ_TEXT; j++)
             check(text[j] == '#', "the output behind the text is as it was", keys);
     }
@@ -142,20 +166,23 @@ static void try_card(const struct card *c) {
 enum { PLAIN = 0, CIRCUMFLEX = 1, HORN = 3, STROKE = 4, CAPITAL = 2048 };
 #define LETTER(small, shape, capital) ((small) + 256 * (shape) + (capital))
 
-/* A record by the places of the header; every byte of the 104 is one of these. */
+/* A record by the places of the header; every byte of the 169 is one of these. */
 struct record {
     unsigned char mode;
     const char *keys; /* bytes 8 to 39, zeros behind them; their number is byte 4 */
     unsigned char letters, tone, closed, acted, undone, appended;
-    unsigned letter[5]; /* bytes 40 to 103, low byte first, zeros behind them */
+    unsigned letter[4];           /* bytes 40 to 103, low byte first, zeros behind them */
+    unsigned char appended_by[4]; /* bytes 104 to 135, zeros behind them */
+    unsigned char shaped_by[4];   /* bytes 136 to 167, zeros behind them */
+    unsigned char toned_by;       /* byte 168 */
 };
 
 static const struct record records[] = {
-    {FZ_TELEX, "", 0, 0, 0, 0, 0, 0, {0}},
-    {FZ_VNI, "", 0, 0, 0, 0, 0, 0, {0}},
-    {FZ_TELEX, "vieejt", 4, 5, 0, 2, 0, 4, {LETTER('v', PLAIN, 0), LETTER('i', PLAIN, 0), LETTER('e', CIRCUMFLEX, 0), LETTER('t', PLAIN, 0)}},
-    {FZ_TELEX, "Dd", 1, 0, 0, 1, 0, 1, {LETTER('d', STROKE, CAPITAL)}},
-    {FZ_VNI, "bA2112", 4, 0, 1, 2, 1, 3, {LETTER('b', PLAIN, 0), LETTER('a', PLAIN, CAPITAL), LETTER('1', PLAIN, 0), LETTER('2', PLAIN, 0)}},
+    {FZ_TELEX, "", 0, 0, 0, 0, 0, 0, {0}, {0}, {0}, NONE},
+    {FZ_VNI, "", 0, 0, 0, 0, 0, 0, {0}, {0}, {0}, NONE},
+    {FZ_TELEX, "vieejt", 4, 5, 0, 2, 0, 4, {LETTER('v', PLAIN, 0), LETTER('i', PLAIN, 0), LETTER('e', CIRCUMFLEX, 0), LETTER('t', PLAIN, 0)}, {0, 1, 2, 5}, {NONE, NONE, 3, NONE}, 4},
+    {FZ_TELEX, "Dd", 1, 0, 0, 1, 0, 1, {LETTER('d', STROKE, CAPITAL)}, {0}, {1}, NONE},
+    {FZ_VNI, "bA2112", 4, 0, 1, 2, 1, 3, {LETTER('b', PLAIN, 0), LETTER('a', PLAIN, CAPITAL), LETTER('1', PLAIN, 0), LETTER('2', PLAIN, 0)}, {0, 1, 4, 5}, {NONE, NONE, NONE, NONE}, NONE},
 };
 
 static void try_record(const struct record *r) {
@@ -176,7 +203,64 @@ static void try_record(const struct record *r) {
         unsigned letter = i < r->letters ? r->letter[i] : 0;
         check(word[40 + 2 * i] == letter % 256, "bytes 40 to 103, a letter's low byte", r->keys);
         check(word[41 + 2 * i] == letter / 256, "bytes 40 to 103, a letter's high byte", r->keys);
+        check(word[104 + i] == (i < r->letters ? r->appended_by[i] : 0), "bytes 104 to 135, the keys that added the letters", r->keys);
+        check(word[136 + i] == (i < r->letters ? r->shaped_by[i] : 0), "bytes 136 to 167, the keys that shaped the letters", r->keys);
     }
+    check(word[168] == r->toned_by, "byte 168, the key that set the tone", r->keys);
+}
+
+/* Which key made which letter: bytes 104 on, 136 on and 168. */
+struct made {
+    unsigned char mode;
+    const char *keys;
+    unsigned char letters, appended_by[6], shaped_by[6], toned_by;
+};
+
+static const struct made made[] = {
+    /* a horn key on a pair has shaped both, also the one that had its horn */
+    {FZ_TELEX, "nguoiwf", 5, {0, 1, 2, 3, 4}, {NONE, NONE, 5, 5, NONE}, 6},
+    {FZ_TELEX, "luw", 2, {0, 1}, {NONE, 2}, NONE},
+    {FZ_TELEX, "luwow", 3, {0, 1, 3}, {NONE, 4, 4}, NONE},
+    {FZ_TELEX, "luwowng", 5, {0, 1, 3, 5, 6}, {NONE, 4, 4, NONE, NONE}, NONE},
+    /* the letter behind huo, khuo, thuo with a horn on the o puts it on the u too */
+    {FZ_TELEX, "thuow", 4, {0, 1, 2, 3}, {NONE, NONE, NONE, 4}, NONE},
+    {FZ_TELEX, "thuown", 5, {0, 1, 2, 3, 5}, {NONE, NONE, 5, 4, NONE}, NONE},
+    {FZ_TELEX, "thuowng", 6, {0, 1, 2, 3, 5, 6}, {NONE, NONE, 5, 4, NONE, NONE}, NONE},
+    {FZ_TELEX, "thuowh", 5, {0, 1, 2, 3, 5}, {NONE, NONE, NONE, 4, NONE}, NONE},
+    {FZ_VNI, "khuo7I1", 5, {0, 1, 2, 3, 5}, {NONE, NONE, 5, 4, NONE}, 6},
+    /* stroke, shape and tone in several orders */
+    {FZ_VNI, "d9uong72", 5, {0, 2, 3, 4, 5}, {1, 6, 6, NONE, NONE}, 7},
+    {FZ_VNI, "duong972", 5, {0, 1, 2, 3, 4}, {5, 6, 6, NONE, NONE}, 7},
+    {FZ_VNI, "duong279", 5, {0, 1, 2, 3, 4}, {7, 6, 6, NONE, NONE}, 5},
+    /* a mark in place of another; a tone cleared, and set again */
+    {FZ_TELEX, "asf", 1, {0}, {NONE}, 2},
+    {FZ_TELEX, "aaw", 1, {0}, {2}, NONE},
+    {FZ_VNI, "a10", 1, {0}, {NONE}, NONE},
+    {FZ_TELEX, "aasz", 1, {0}, {1}, NONE},
+    {FZ_TELEX, "aszs", 1, {0}, {NONE}, 3},
+    /* undone: a shape, a stroke, both horns of a pair, also where two keys put them on, and a tone; the letter is the undoing key's own */
+    {FZ_TELEX, "aa", 1, {0}, {1}, NONE},
+    {FZ_TELEX, "aaa", 2, {0, 2}, {NONE, NONE}, NONE},
+    {FZ_TELEX, "dadd", 3, {0, 1, 3}, {NONE, NONE, NONE}, NONE},
+    {FZ_TELEX, "uoww", 3, {0, 1, 3}, {NONE, NONE, NONE}, NONE},
+    {FZ_TELEX, "huownw", 5, {0, 1, 2, 4, 5}, {NONE, NONE, NONE, NONE, NONE}, NONE},
+    {FZ_TELEX, "tesst", 4, {0, 1, 3, 4}, {NONE, NONE, NONE, NONE}, NONE},
+    /* where a shape is undone the tone's key stays, and the other way round */
+    {FZ_TELEX, "asaa", 2, {0, 3}, {NONE, NONE}, 1},
+    {FZ_TELEX, "nguoiwfw", 6, {0, 1, 2, 3, 4, 7}, {NONE, NONE, NONE, NONE, NONE, NONE}, 6},
+    {FZ_TELEX, "aass", 2, {0, 3}, {1, NONE}, NONE},
+    /* one of two letters undone, and letters behind an undo */
+    {FZ_TELEX, "ddaaa", 3, {0, 2, 4}, {1, NONE, NONE}, NONE},
+    {FZ_TELEX, "huowwn", 5, {0, 1, 2, 4, 5}, {NONE, NONE, NONE, NONE, NONE}, NONE},
+};
+
+static void try_made(const struct made *m) {
+    unsigned char word[FZ_WORD], text[FZ_TEXT];
+    type_all(m->mode, m->keys, word, text);
+    check(word[1] == m->letters, "how many letters", m->keys);
+    check(same(word + 104, m->appended_by, m->letters), "which keys added the letters", m->keys);
+    check(same(word + 136, m->shaped_by, m->letters), "which keys shaped the letters", m->keys);
+    check(word[168] == m->toned_by, "which key set the tone", m->keys);
 }
 
 /* What each key did, as fz_type's value, and as fz_type_and_show says it into an output with room for any text and into one that just fits. */
@@ -201,7 +285,7 @@ static void try_names(void) {
         const char *name;
         unsigned long is, should;
     } names[] = {
-        {"FZ_WORD", FZ_WORD, 104},
+        {"FZ_WORD", FZ_WORD, 169},
         {"FZ_KEYS", FZ_KEYS, 32},
         {"FZ_TEXT", FZ_TEXT, 96},
         {"FZ_LIST", FZ_LIST, 9},
@@ -217,6 +301,10 @@ static void try_names(void) {
         {"FZ_AT_APPENDED", FZ_AT_APPENDED, 7},
         {"FZ_AT_KEYS", FZ_AT_KEYS, 8},
         {"FZ_AT_LETTERS", FZ_AT_LETTERS, 40},
+        {"FZ_AT_APPENDED_BY", FZ_AT_APPENDED_BY, 104},
+        {"FZ_AT_SHAPED_BY", FZ_AT_SHAPED_BY, 136},
+        {"FZ_AT_TONED_BY", FZ_AT_TONED_BY, 168},
+        {"FZ_NO_KEY", FZ_NO_KEY, 255},
         {"FZ_OPEN", FZ_OPEN, 0},
         {"FZ_CLOSED", FZ_CLOSED, 1},
         {"FZ_PLAIN", FZ_PLAIN, 0},
@@ -340,6 +428,78 @@ static void try_broken(const unsigned char *word, unsigned long place, unsigned 
     try_refused(broken, FZ_WORD, 8, 0, why);
 }
 
+/* A word is answered by every call that only reads it: the text, the verdict, the place of the tone and the decision. */
+static void try_answered(const unsigned char *word, const char *shown, unsigned long verdict, unsigned long place, unsigned long decision, const char *why) {
+    unsigned char text[FZ_TEXT];
+    unsigned long v = UNWRITTEN;
+    check(fz_show(word, FZ_WORD, text, FZ_TEXT, &v) == 0 && v == length(shown) && same(text, bytes(shown), v), "fz_show", why);
+    check(fz_verdict(word, FZ_WORD, &v) == 0 && v == verdict, "fz_verdict", why);
+    check(fz_place(word, FZ_WORD, &v) == 0 && v == place, "fz_place", why);
+    check(fz_decision(word, FZ_WORD, &v) == 0 && v == decision, "fz_decision", why);
+}
+
+/* A key typed by either call changes these bytes of the word and no other. */
+struct change {
+    unsigned char place, byte;
+};
+
+static void try_changes(const unsigned char *word, unsigned char key, const struct change *changes, unsigned long n, const char *why) {
+    unsigned char should[FZ_WORD], one[FZ_WORD], other[FZ_WORD], text[FZ_TEXT];
+    unsigned long did, v;
+    copy(should, word, FZ_WORD);
+    copy(one, word, FZ_WORD);
+    copy(other, word, FZ_WORD);
+    for (unsigned long i = 0; i < n; i++)
+        should[changes[i].place] = changes[i].byte;
+    check(fz_type(one, FZ_WORD, key, &v) == 0 && same(one, should, FZ_WORD), "fz_type changes what it should and no other byte", why);
+    check(fz_type_and_show(other, FZ_WORD, key, text, FZ_TEXT, &did, &v) == 0 && same(other, should, FZ_WORD), "fz_type_and_show changes what it should and no other byte", why);
+}
+
+/* The word vieejt with other bytes past its 6 keys and 4 letters, and with other places of keys that are in range: answered as it is, and these bytes stay. The keys
+   are an s, which sets another tone, an e, which undoes the circumflex, and an a, which is added. */
+static void try_unread(const unsigned char *word) {
+    static const unsigned char values[] = {0, 5, 6, 32, 254, 255};
+    static const struct change s[] = {{2, 1}, {4, 7}, {5, 3}, {14, 's'}, {168, 6}};
+    static const struct change e[] = {{1, 5}, {3, 1}, {4, 7}, {6, 1}, {14, 'e'}, {45, 0}, {48, 'e'}, {49, 0}, {108, 6}, {138, NONE}, {140, NONE}};
+    static const struct change a[] = {{1, 5}, {4, 7}, {7, 5}, {14, 'a'}, {48, 'a'}, {49, 0}, {108, 6}, {140, NONE}};
+    unsigned char other[FZ_WORD];
+    for (unsigned long i = 0; i < sizeof values + 3; i++) {
+        const char *why = "bytes past the counts";
+        copy(other, word, FZ_WORD);
+        if (i < sizeof values) {
+            fill(other + 14, 26, values[i]);
+            fill(other + 48, 56, values[i]);
+            fill(other + 108, 28, values[i]);
+            fill(other + 140, 28, values[i]);
+        } else {
+            /* all made by the first key, all by the last, and as few as may be */
+            const unsigned char by[] = {0, 5, 5}, shaper[] = {0, 5, NONE};
+            fill(other + 104, 4, by[i - sizeof values]);
+            fill(other + 136, 4, shaper[i - sizeof values]);
+            other[168] = shaper[i - sizeof values];
+            why = "other places of keys";
+        }
+        try_answered(other, "việt", 0, 2, 0, why);
+        try_changes(other, 's', s, sizeof s / sizeof s[0], why);
+        try_changes(other, 'e', e, sizeof e / sizeof e[0], why);
+        try_changes(other, 'a', a, sizeof a / sizeof a[0], why);
+    }
+}
+
+/* Places out of range in a word in range: every letter's, and the tone's. None may stand for a shape and for the tone, and never for a letter's own key. */
+static void try_wrong_places(const unsigned char *word) {
+    const unsigned char typed = word[4];
+    for (unsigned long i = 0; i < word[1]; i++) {
+        try_broken(word, 104 + i, typed, "a letter added by a key past the last");
+        try_broken(word, 104 + i, 254, "a letter added by key 254");
+        try_broken(word, 104 + i, NONE, "a letter that no key added");
+        try_broken(word, 136 + i, typed, "a letter shaped by a key past the last");
+        try_broken(word, 136 + i, 254, "a letter shaped by key 254");
+    }
+    try_broken(word, 168, typed, "a tone set by a key past the last");
+    try_broken(word, 168, 254, "a tone set by key 254");
+}
+
 /* A shown text spelled in both modes; typing either list shows it again. */
 static void try_spelled(const char *shown, const char *telex, const char *vni) {
     for (unsigned char mode = FZ_TELEX; mode <= FZ_VNI; mode++) {
@@ -372,6 +532,9 @@ int main(void) {
     for (unsigned long i = 0; i < sizeof records / sizeof records[0]; i++)
         try_record(&records[i]);
 
+    for (unsigned long i = 0; i < sizeof made / sizeof made[0]; i++)
+        try_made(&made[i]);
+
     for (unsigned long i = 0; i < sizeof cards / sizeof cards[0]; i++)
         try_card(&cards[i]);
 
@@ -382,24 +545,26 @@ int main(void) {
     try_outcomes(FZ_TELEX, "uow", (const unsigned long[]){96, 96, 35});
     try_outcomes(FZ_VNI, "a1122", (const unsigned long[]){96, 17, 80, 96, 96});
 
-    /* Refusals of fz_start: the length, then the mode. Nothing is written. */
-    for (unsigned long n = FZ_WORD - 1; n <= FZ_WORD + 1; n++) {
+    /* Refusals of fz_start: the length, then the mode. Nothing is written. A word of an older version has 104 bytes. */
+    for (unsigned long i = 0; i < 5; i++) {
+        const unsigned long lengths[] = {0, 104, 168, 169, 170};
         fill(word, FZ_WORD + 1, 0xAA);
         fill(before, FZ_WORD + 1, 0xAA);
         v = UNWRITTEN;
-        if (n == FZ_WORD)
-            check(fz_start(2, word, n, &v) == 1 && v == 0, "refusal 1", "fz_start of mode 2");
+        if (lengths[i] == 169)
+            check(fz_start(2, word, lengths[i], &v) == 1 && v == 0, "refusal 1", "fz_start of mode 2");
         else
-            check(fz_start(2, word, n, &v) == 8 && v == 0, "refusal 8", "fz_start on another length");
+            check(fz_start(2, word, lengths[i], &v) == 8 && v == 0, "refusal 8", "fz_start on another length");
         check(same(word, before, FZ_WORD + 1), "nothing is written", "fz_start refused");
     }
 
     /* Bytes that are no record: another length, or a mark of 2. */
     type_all(FZ_TELEX, "vieejt", word, text);
     word[FZ_WORD] = 0;
-    try_refused(word, FZ_WORD - 1, 8, 0, "103 bytes");
-    try_refused(word, FZ_WORD + 1, 8, 0, "105 bytes");
     try_refused(word, 0, 8, 0, "no bytes");
+    try_refused(word, 104, 8, 0, "104 bytes, a word of an older version");
+    try_refused(word, 168, 8, 0, "168 bytes");
+    try_refused(word, 170, 8, 0, "170 bytes");
     try_broken(word, 3, 2, "a mark of 2");
 
     /* Records out of range, one condition at a time. */
@@ -414,6 +579,25 @@ int main(void) {
     try_broken(word, 40, 'V', "a letter by its capital's code");
     try_broken(word, 41, 1, "a circumflex on v");
     try_broken(word, 41, 16, "a letter's number that is none");
+    try_wrong_places(word);
+    try_unread(word);
+
+    /* A new word has no keys, so that no place is one of theirs; a word of 32 letters uses every place. */
+    type_all(FZ_VNI, "", word, text);
+    try_wrong_places(word);
+    try_broken(word, 168, 31, "a tone set by a key past the last");
+    fill(word + 104, 64, 254);
+    try_answered(word, "", 1, FZ_NOWHERE, 0, "a new word with other places");
+    try_changes(word, 'A', (const struct change[]){{1, 1}, {4, 1}, {7, 1}, {8, 'A'}, {40, 'a'}, {41, 8}, {104, 0}, {136, NONE}}, 8, "a new word with other places");
+    type_all(FZ_TELEX, "bbbbbbbbbbbbbbbbbbbbbbbbbbbbbbbb", word, text);
+    try_wrong_places(word);
+    for (unsigned char i = 0; i < 32; i++)
+        check(word[104 + i] == i && word[136 + i] == NONE, "each letter by its own key", "32 times b");
+    fill(word + 104, 32, 31);
+    fill(word + 136, 33, 31);
+    try_answered(word, "bbbbbbbbbbbbbbbbbbbbbbbbbbbbbbbb", 1, FZ_NOWHERE, 0, "32 letters by the last key");
+    try_refused(word, FZ_WORD, 2, 32, "32 letters by the last key");
+    type_all(FZ_TELEX, "vieejt", word, text);
 
     /* A key that the mode does not have: the number of keys already typed. */
     for (unsigned long i = 0; i < 3; i++) {
@@ -439,6 +623,8 @@ int main(void) {
     /* A full word: 32 times a is 31 letters, closed; one more is refused, also where it is no key. */
     v = type_all(FZ_TELEX, "aaaaaaaaaaaaaaaaaaaaaaaaaaaaaaaa", word, text);
     check(v == 31 && word[1] == 31 && word[3] == 1 && word[4] == 32, "31 letters, closed", "32 times a");
+    for (unsigned char i = 1; i < 31; i++)
+        check(word[104] == 0 && word[104 + i] == i + 1 && word[136] == NONE && word[136 + i] == NONE, "the second a made no letter", "32 times a");
     try_refused(word, FZ_WORD, 2, 32, "a word of 32 keys");
     check(fz_type(word, FZ_WORD, '!', &v) == 2 && v == 32, "2 comes before 3", "a word of 32 keys");
 

@@ -95,7 +95,7 @@ int main(void) {
         const char *keys;
     } words[] = {
         {FZ_TELEX, "vieejt"}, {FZ_TELEX, "nguoiwf"}, {FZ_TELEX, "dduowngf"}, {FZ_TELEX, "quyeenr"}, {FZ_TELEX, "giuwax"}, {FZ_TELEX, "tesst"},
-        {FZ_TELEX, "expect"}, {FZ_TELEX, "aww"}, {FZ_TELEX, "NGHIEENGF"}, {FZ_TELEX, "hoaz"}, {FZ_VNI, "d9uong72"}, {FZ_VNI, "nghie6ng2"},
+        {FZ_TELEX, "expect"}, {FZ_TELEX, "aww"}, {FZ_TELEX, "thuowngf"}, {FZ_TELEX, "NGHIEENGF"}, {FZ_TELEX, "hoaz"}, {FZ_VNI, "d9uong72"}, {FZ_VNI, "nghie6ng2"},
         {FZ_VNI, "a88"}, {FZ_TELEX, "aeoaeoaeoaeoaeoaeoaeoaeoaeoaeoaea"},
     };
     /* Twice: at its first call a function of the C library may be sought by the loader, on the caller's stack. */

@@ -1,4 +1,4 @@
-//! Document 01, second reading: the speller, and the lines of the three programs.
+//! Document 01, second reading: the speller, and the lines of the programs.
 
 use crate::syllable::{Letter, Mode, Shape, VOWELS, name, place, plain_name, shown, verdict};
 use crate::typing::{Refused, Word, type_all};
@@ -126,6 +126,17 @@ fn six_columns(w: &Word, line: &[u8]) -> String {
 /// The answer of the drill to one line, without its newline.
 pub fn drill_line(line: &[u8]) -> Vec<u8> {
     word_of(line).map_or_else(refused, |w| six_columns(&w, line).into_bytes())
+}
+
+/// The answer of the drill with the places of the keys: two columns more, for each letter the place of the key that appended it
+/// and of the one that shaped it, and the place of the one that set the tone; a hyphen for none.
+pub fn keys_line(line: &[u8]) -> Vec<u8> {
+    let place = |p: Option<usize>| p.map_or("-".to_string(), |n| n.to_string());
+    word_of(line).map_or_else(refused, |w| {
+        let letters: Vec<String> = w.made.iter().map(|m| format!("{}/{}", m.appended, place(m.shaped))).collect();
+        let letters = if letters.is_empty() { "-".to_string() } else { letters.join(",") };
+        format!("{} {} {}", six_columns(&w, line), letters, place(w.toned)).into_bytes()
+    })
 }
 
 /// The answer of the cards program to one line, without its newline: the drill's six columns, the open mark, the number of

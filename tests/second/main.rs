@@ -3,6 +3,7 @@
 //! the lines of standard input itself, with the columns of the program cards.
 //!
 //!     second drill PROGRAM LINES SEED
+//!     second keys PROGRAM LINES SEED     (the drill with --keys)
 //!     second spell PROGRAM LINES SEED
 //!     second cards < LINES
 
@@ -238,8 +239,24 @@ fn written_lines(spell: bool) -> Vec<Vec<u8>> {
     WRITTEN.iter().flat_map(|g| if spell { [in_mode("T", g.shown), in_mode("V", g.shown)] } else { [in_mode("T", g.telex), in_mode("V", g.vni)] }).flatten().collect()
 }
 
-fn answers_of(program: &str, input: Vec<u8>) -> std::io::Result<Vec<u8>> {
-    let mut child = Command::new(program).stdin(Stdio::piped()).stdout(Stdio::piped()).spawn()?;
+/// What a run compares: the program's arguments, its first line, and the answer to a line.
+struct Compared {
+    arguments: &'static [&'static str],
+    header: &'static [u8],
+    answer: fn(&[u8]) -> Vec<u8>,
+}
+
+fn compared(what: &str) -> Option<Compared> {
+    match what {
+        "drill" => Some(Compared { arguments: &[], header: b"shown commit verdict tone place decision\n", answer: lines::drill_line }),
+        "keys" => Some(Compared { arguments: &["--keys"], header: b"shown commit verdict tone place decision letters tonekey\n", answer: lines::keys_line }),
+        "spell" => Some(Compared { arguments: &[], header: b"", answer: lines::spell_line }),
+        _ => None,
+    }
+}
+
+fn answers_of(program: &str, arguments: &[&str], input: Vec<u8>) -> std::io::Result<Vec<u8>> {
+    let mut child = Command::new(program).args(arguments).stdin(Stdio::piped()).stdout(Stdio::piped()).spawn()?;
     let mut to = child.stdin.take().unwrap();
     let writer = std::thread::spawn(move || to.write_all(&input));
     let mut output = vec![];
@@ -275,10 +292,12 @@ fn main() -> ExitCode {
             }
         };
     }
-    let [_, what, program, count, seed] = &args[..] else {
-        eprintln!("usage: second drill|spell PROGRAM LINES SEED, or: second cards < LINES");
-        return ExitCode::from(2);
+    let usage = || {
+        eprintln!("usage: second drill|keys|spell PROGRAM LINES SEED, or: second cards < LINES");
+        ExitCode::from(2)
     };
+    let [_, what, program, count, seed] = &args[..] else { return usage() };
+    let Some(compared) = compared(what) else { return usage() };
     let spell = what == "spell";
     let count: usize = count.parse().expect("a number of lines");
     let seed: u64 = seed.parse().expect("a seed");
@@ -287,22 +306,21 @@ fn main() -> ExitCode {
     let lines: Vec<Vec<u8>> = written_lines(spell).into_iter().chain(std::iter::repeat_with(|| line(&mut dice, spell, &forms))).take(count).collect();
     let mut input = lines.join(&b'\n');
     input.push(b'\n');
-    let output = match answers_of(program, input) {
+    let output = match answers_of(program, compared.arguments, input) {
         Ok(output) => output,
         Err(e) => {
             eprintln!("second: {program}: {e}");
             return ExitCode::FAILURE;
         }
     };
-    let header: &[u8] = if spell { b"" } else { b"shown commit verdict tone place decision\n" };
-    let Some(rest) = output.strip_prefix(header) else {
+    let Some(rest) = output.strip_prefix(compared.header) else {
         eprintln!("second: the header is missing");
         return ExitCode::FAILURE;
     };
     let mut answers = rest.split_inclusive(|&b| b == b'\n');
     let mut wrong = 0;
     for line in &lines {
-        let mut expected = if spell { lines::spell_line(line) } else { lines::drill_line(line) };
+        let mut expected = (compared.answer)(line);
         expected.push(b'\n');
         let got = answers.next().unwrap_or(b"");
         if got != expected {

@@ -1,11 +1,22 @@
-//! Document 01, second reading: one key typed, and a list of keys.
+//! Document 01, second reading: one key typed, and a list of keys; and which key made which letter.
 
 use crate::syllable::{Letter, Mode, Shape, admitted, is_huo, tone_fits, verdict};
+
+/// The places, among the keys and from 0, of the key that appended a letter and of the last key that shaped it.
+pub struct Made {
+    pub appended: usize,
+    pub shaped: Option<usize>,
+}
 
 pub struct Word {
     pub mode: Mode,
     pub letters: Vec<Letter>,
+    /// Of each letter.
+    pub made: Vec<Made>,
     pub tone: usize,
+    /// The place of the last key that set the tone.
+    pub toned: Option<usize>,
+    pub typed: usize,
     pub open: bool,
     pub acted: usize,
     pub undone: usize,
@@ -17,7 +28,7 @@ pub type Refused = (usize, usize);
 
 impl Word {
     pub fn new(mode: Mode) -> Word {
-        Word { mode, letters: vec![], tone: 0, open: true, acted: 0, undone: 0, appended: 0 }
+        Word { mode, letters: vec![], made: vec![], tone: 0, toned: None, typed: 0, open: true, acted: 0, undone: 0, appended: 0 }
     }
 
     pub fn keeps(&self) -> bool {
@@ -30,6 +41,7 @@ impl Word {
     fn plain_letter(&mut self, key: u8) {
         let c = key as char;
         self.letters.push(Letter { base: c.to_ascii_lowercase(), shape: Shape::Plain, capital: c.is_ascii_uppercase() });
+        self.made.push(Made { appended: self.typed, shaped: None });
     }
 
     fn append(&mut self, key: u8) {
@@ -43,6 +55,7 @@ impl Word {
         let n = self.letters.len();
         if self.open && is_huo(&self.letters) && self.letters[n - 1].shape == Shape::Horn && "iucmnpt".contains(letter) {
             self.letters[n - 2].shape = Shape::Horn;
+            self.made[n - 2].shaped = Some(self.typed);
         }
     }
 
@@ -60,6 +73,7 @@ impl Word {
         if at.iter().all(|&i| self.letters[i].shape == shape) {
             for &i in at {
                 self.letters[i].shape = Shape::Plain;
+                self.made[i].shaped = None;
             }
             self.undo(key);
             return true;
@@ -72,6 +86,9 @@ impl Word {
             return false;
         }
         self.letters = next;
+        for &i in at {
+            self.made[i].shaped = Some(self.typed);
+        }
         self.acted += 1;
         true
     }
@@ -97,9 +114,11 @@ impl Word {
     fn tone_key(&mut self, tone: usize, key: u8) {
         if self.tone == tone {
             self.tone = 0;
+            self.toned = None;
             self.undo(key);
         } else if admitted(&self.letters) && tone_fits(&self.letters, tone) {
             self.tone = tone;
+            self.toned = Some(self.typed);
             self.acted += 1;
         } else {
             self.append(key);
@@ -111,6 +130,7 @@ impl Word {
             self.append(key);
         } else {
             self.tone = 0;
+            self.toned = None;
             self.acted += 1;
         }
     }
@@ -121,10 +141,12 @@ impl Word {
         match self.letters.first_mut() {
             Some(x) if x.base == 'd' && x.shape == Shape::Stroke => {
                 x.shape = Shape::Plain;
+                self.made[0].shaped = None;
                 self.undo(key);
             }
             Some(x) if x.base == 'd' && fits => {
                 x.shape = Shape::Stroke;
+                self.made[0].shaped = Some(self.typed);
                 self.acted += 1;
             }
             _ => self.append(key),
@@ -183,6 +205,7 @@ pub fn type_all(mode: Mode, keys: &[u8]) -> Result<Word, Refused> {
     let mut w = Word::new(mode);
     for &k in keys {
         w.press(k);
+        w.typed += 1;
     }
     Ok(w)
 }

@@ -1,26 +1,34 @@
--- The ruling by its tests, in the order in which the code asks them.
+-- The ruling by its tests, in the order in which the code asks them, and what the code makes of a word in range.
 use mathlib.Core.Path.{_≡_, refl, sym, ap, subst, _∙_}
-use mathlib.Core.Bool.{Bool, true, false, not}
-use mathlib.Core.List.{List}
-use Prim.Native.Nat.{ℕ, _+_, _≤_, _<_}
+use mathlib.Core.Bool.{Bool, true, false, not, _&&_}
+use mathlib.Core.List.{List, map}
+use Prim.Native.Nat.{ℕ, _+_, _-_, _≤_, _<_}
 use native.Mathlib.Omega.{arith}
 use borrow.Author.Tests.{lt-ltb, le-ltb}
-use lib.Dec.{T}
-use lib.ListN.{length}
-use Rattle.rules.specs.TheWord.{Typed, mostKeys, mostBytes, wordOf}
+use lib.Dec.{T, eqb}
+use lib.ListN.{length, take, length-take}
+use Rattle.rules.specs.TakingApart.{verdict}
+use Rattle.rules.specs.TheWord.{Typed, mostKeys, mostBytes, letter, wordOf, atFront}
 use Rattle.rules.specs.KeyRoles.{isKey}
 use Rattle.rules.specs.CodePoints.{shown}
 use Rattle.rules.specs.Decision.{decision}
-use Rattle.rules.specs.Refusals.{all, isMode, sameBytes, allowedBefore, refusal}
-use Rattle.rules.specs.WhatComesBack.{typed, typeAll}
+use Rattle.rules.specs.Refusals.{all, isMode, sameBytes, allowedBefore, outOfRange, refusal}
+use Rattle.rules.specs.WhatComesBack.{typed, typeAll, Written, show, decisionAnswer}
 use Rattle.rules.specs.declared.Word.{Word}
 use Rattle.rules.specs.declared.Refusal.{Refusal}
 use Rattle.rules.specs.declared.TypeAnswer.the-variants.{AllTyped}
 use Rattle.rules.specs.declared.TypeAnswer.the-variants.{Refused as TypeRefused}
+use Rattle.rules.specs.declared.WriteAnswer.the-variants.{Wrote}
+use Rattle.rules.specs.declared.DecisionAnswer.the-variants.{Decided}
 use Rattle.rules.specs.declared.Decision.{Decision}
 use Rattle.rules.specs.declared.Decision.the-variants.{Keep as Kept, Restore as Restored}
-use Rattle.rules.proofs.NotRefused.{typed-word}
+use Rattle.rules.proofs.NotRefused.{so-long, its-front, its-decision, typed-word}
 use Rattle.rules.proofs.Commits.{same-bytes}
+use Rattle.rules.proofs.Range.{few-letters}
+use Rattle.show.specs.Filling.{roomText}
+use Rattle.show.proofs.Answers.{made-there, shown-so}
+use Rattle.word.specs.Deciding.{decidedBy}
+use Rattle.word.proofs.Answers.{decided as word-decided}
 use Rattle.commit.specs.declared.Ruling.{Ruling}
 use Rattle.commit.specs.declared.Ruling.the-variants.{Keep, Restore, Refused}
 use Rattle.commit.specs.Rulings.{decided, judgedIf, judged, rulingOf}
@@ -28,11 +36,34 @@ use Rattle.commit.specs.Rulings.{decided, judgedIf, judged, rulingOf}
 abbrev refusedAs : ℕ → ℕ → Ruling
 refusedAs n v = Refused (record { number = n; value = v })
 
--- a word in range: the ruling on a text for it
 module _ (w : Word) where
   abbrev its-text : List ℕ
   its-text = shown (wordOf w .state)
 
+  -- a word in range: its letters, as they are lent, make its text and its decision
+  module _ (range : outOfRange w ≡ false) where
+    abbrev lent : List ℕ
+    lent = take (w .count - 0) (w .letters)
+
+    module _ (n : ℕ) (old buffer : List ℕ) (room : mostBytes ≤ length old) (many : n ≡ length (roomText lent (w .tone) old)) (made : buffer ≡ atFront (roomText lent (w .tone) old) old) where
+      shows : record { answer = Wrote n; output = buffer } ≡ show w old
+      shows =
+          let few : length lent ≤ mostKeys = simp length-take (omega (arith, few-letters w range)) in
+          sym (made-there lent (w .tone) old few n room many buffer made) ∙ shown-so w old refl range
+
+      pub text-long : n ≡ length its-text
+      text-long = so-long w range old room (Wrote n) (ap (λ (x : Written). x .answer) shows) n refl
+
+      pub text-made : take (n - 0) buffer ≡ its-text
+      text-made = its-front w range old room (Wrote n) (ap (λ (x : Written). x .answer) shows) n refl buffer (ap (λ (x : Written). x .output) shows)
+
+    abbrev decide : ℕ → Decision
+    decide = decidedBy (eqb (w .acted) 0 && eqb (w .undone) 0) (w .closed) (map letter lent)
+
+    pub decides : (v : ℕ) (d : Decision) → v ≡ verdict (map letter lent) (w .tone) → d ≡ decide v → d ≡ decision (wordOf w)
+    decides v d e f = its-decision w range (decisionAnswer w) refl d (word-decided w range ∙ sym (ap Decided (f ∙ ap decide e)))
+
+  -- the ruling on a text for it
   module _ (text : List ℕ) where
     pub other-text : sameBytes text its-text ≡ false → refusedAs 5 0 ≡ judged (wordOf w) text
     other-text h = sym (ap (λ (b : Bool). judgedIf b (wordOf w) text) h)

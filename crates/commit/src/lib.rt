@@ -8,11 +8,9 @@ ghost use denote.Ref.{ptr};
 ghost use Rattle.commit.specs.Rulings.{judged, rulingOf, handedFrom};
 use rules::CommitAnswer;
 use rules::Decision;
-use rules::DecisionAnswer;
 use rules::Refusal;
 use rules::TypeAnswer;
 use rules::Word;
-use rules::WriteAnswer;
 
 // What is to be handed back: so many bytes of the text, the keys, or nothing.
 pub enum Ruling {
@@ -49,20 +47,22 @@ fn same(text: &[u8], shown: &[u8]) -> bool
 }
 
 // The lent text is exactly what the word shows: the decision on the word; else refusal 5.
+// The word is in range: its letters are taken out of the record once, and not asked about again.
 fn judge(w: Word, text: &[u8]) -> Ruling
     requires { ⌜ outOfRange w ≡ false ⌝ }
     ensures { λ r. ⌜ r ≡ judged (wordOf w) (now (text .entry)) ⌝ }
 {
+    let all = w.letters;
+    let count = w.count as usize;
+    let letters = &all[0..count];
     let mut shown = [0; Word::TEXT];
-    let WriteAnswer::Wrote(n) = show::show(w, &mut shown) else {
-        return refused(5, 0);
-    };
+    let n = show::in_room(letters, w.tone, &mut shown);
     if !same(text, &shown[0..n]) {
         return refused(5, 0);
     }
-    let DecisionAnswer::Decided(decision) = word::decision(w) else {
-        return refused(5, 0);
-    };
+    let untouched = (w.acted == 0) & (w.undone == 0);
+    let verdict = syllable::verdict(letters, w.tone);
+    let decision = word::decided(letters, untouched, w.closed, verdict);
     if let Decision::Keep = decision {
         return Ruling::Keep(n);
     }

@@ -70,13 +70,13 @@ refused-unchanged (answered ns) new old h = absurd (h refl)
 refused-unchanged (refused n m) new old h = refl
 
 module _ (mode : ℕ) (lent : List ℕ) where
-  pub no-room : (length lent ≡ 104 → ⊥) → Calls.start mode lent ≡ refused 8 0
+  pub no-room : (length lent ≡ 169 → ⊥) → Calls.start mode lent ≡ refused 8 0
   unfolding Calls.start
-  no-room h = ap (λ (b : Bool). ofRecord b (startSays (Rules.start mode .answer))) (ne-eqb (length lent) 104 h)
+  no-room h = ap (λ (b : Bool). ofRecord b (startSays (Rules.start mode .answer))) (ne-eqb (length lent) 169 h)
 
-  pub started : length lent ≡ 104 → (s : Start) (a : StartAnswer) → s ≡ Rules.start mode → s .answer ≡ a → Calls.start mode lent ≡ startSays a
+  pub started : length lent ≡ 169 → (s : Start) (a : StartAnswer) → s ≡ Rules.start mode → s .answer ≡ a → Calls.start mode lent ≡ startSays a
   unfolding Calls.start
-  started h s a p q = ap₂ (λ (b : Bool) (x : StartAnswer). ofRecord b (startSays x)) (eq-eqb (length lent) 104 h) (sym (ap (λ (x : Start). x .answer) p) ∙ q)
+  started h s a p q = ap₂ (λ (b : Bool) (x : StartAnswer). ofRecord b (startSays x)) (eq-eqb (length lent) 169 h) (sym (ap (λ (x : Start). x .answer) p) ∙ q)
 
 -- calls on a record that is read from the lent bytes
 module _ (lent : List ℕ) (r : RecordRead) (e : r ≡ asRecord lent) where

@@ -17,16 +17,13 @@ use Rattle.show.specs.Filling.{roomText}
 use Rattle.show.proofs.Answers.{made-there}
 use Rattle.records.specs.Numbers.{numbersOf, wordIn}
 use Rattle.records.specs.declared.Numbers.{Numbers}
-use Rattle.step.specs.LentWord.{stepIn}
-use Rattle.step.specs.declared.StepIn.{StepIn}
 use Rattle.press.specs.StepAndShow.{stepAndShow}
 use Rattle.press.specs.declared.ShownAnswer.the-variants.{Did}
 use Rattle.press.proofs.Shows.{Then, did-so}
 
 -- a record's arrays and numbers stepped where they lie: the step of the record
-pub lent-step : (w : Word) (k : ℕ) (letters keys : List ℕ) (n : Numbers) (r : StepIn) → n ≡ numbersOf w → stepIn (w .mode) letters keys r ≡ step (wordIn (w .mode) (w .letters) (w .keys) n) k →
-    stepIn (w .mode) letters keys r ≡ step w k
-lent-step w k letters keys n r p e = e ∙ ap (λ (m : Numbers). step (wordIn (w .mode) (w .letters) (w .keys) m) k) p
+pub lent-step : (w : Word) (k : ℕ) (s : Step) (n : Numbers) → n ≡ numbersOf w → s ≡ step (wordIn (w .mode) (w .letters) (w .«appended_by») (w .«shaped_by») (w .keys) (w .«toned_by») n) k → s ≡ step w k
+lent-step w k s n p e = e ∙ ap (λ (m : Numbers). step (wordIn (w .mode) (w .letters) (w .«appended_by») (w .«shaped_by») (w .keys) (w .«toned_by») m) k) p
 
 module _ (w : Word) (k : ℕ) (out : List ℕ) (s : Step) (e : s ≡ step w k) (whole : Whole w) (o : Outcome) (d : s .answer ≡ Stepped o) where
   so : Then w k out s e o

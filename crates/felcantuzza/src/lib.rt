@@ -1,6 +1,6 @@
 // What the box links. Each call takes numbers and lent bytes alone: no struct, enum or bool crosses.
 // It returns 0 where it is answered, else the refusal's number; `value` then holds the answer's number, or the refusal's, and is always written.
-// A word's record is lent as the 104 bytes of crate `layout`; bytes that are no record are refusal 8 with 0. A refused call leaves every lent byte as it was.
+// A word's record is lent as the 169 bytes of crate `layout`; bytes that are no record are refusal 8 with 0. A refused call leaves every lent byte as it was.
 use commit::Ruling;
 use press::ShownAnswer;
 use records::Numbers;
@@ -157,11 +157,20 @@ fn type_and_show_short(
     }
 }
 
-// The record of a mode, letters, keys and numbers, into a word's bytes.
-fn store(mode: u8, letters: [u16; Word::KEYS], keys: [u8; Word::KEYS], n: Numbers, lent: &mut [u8])
-    ensures { λ _. ⌜ now (lent .exit) ≡ recordWritten (wordIn mode letters keys n) (now (lent .entry)) ⌝ }
+// The record of a mode, letters, places of keys, keys and numbers, into a word's bytes.
+fn store(
+    mode: u8,
+    letters: [u16; Word::KEYS],
+    appended_by: [u8; Word::KEYS],
+    shaped_by: [u8; Word::KEYS],
+    keys: [u8; Word::KEYS],
+    toned_by: u8,
+    n: Numbers,
+    lent: &mut [u8],
+)
+    ensures { λ _. ⌜ now (lent .exit) ≡ recordWritten (wordIn mode letters «appended_by» «shaped_by» keys «toned_by» n) (now (lent .entry)) ⌝ }
 {
-    let w = records::word_in(mode, letters, keys, n);
+    let w = records::word_in(mode, letters, appended_by, shaped_by, keys, toned_by, n);
     layout::write(w, lent);
 }
 
@@ -188,13 +197,34 @@ pub extern "C" fn fz_type_and_show(
     }
     let w = reading.word;
     let mut letters = w.letters;
+    let mut appended_by = w.appended_by;
+    let mut shaped_by = w.shaped_by;
     let mut keys = w.keys;
-    let done = step::step_in(&mut letters, &mut keys, w.mode, records::numbers_of(w), key);
+    let mut toned_by = w.toned_by;
+    let done = step::step_in(
+        &mut letters,
+        &mut appended_by,
+        &mut shaped_by,
+        &mut keys,
+        &mut toned_by,
+        w.mode,
+        records::numbers_of(w),
+        key,
+    );
     let answer = done.answer;
     match answer {
         StepAnswer::Did(outcome) => {
             let n = done.numbers;
-            store(w.mode, letters, keys, n, lent);
+            store(
+                w.mode,
+                letters,
+                appended_by,
+                shaped_by,
+                keys,
+                toned_by,
+                n,
+                lent,
+            );
             *did = outcome_number(outcome);
             let count = n.count as usize;
             answered(show::in_room(&letters[0..count], n.tone, out), value)
@@ -216,7 +246,20 @@ pub extern "C" fn fz_show(lent: &[u8], out: &mut [u8], value: &mut usize) -> u8
         return no_record(value);
     }
     let w = reading.word;
-    match show::show(w, out) {
+    let letters = w.letters;
+    let appended_by = w.appended_by;
+    let shaped_by = w.shaped_by;
+    let keys = w.keys;
+    match show::show_in(
+        &letters,
+        &appended_by,
+        &shaped_by,
+        &keys,
+        w.toned_by,
+        w.mode,
+        records::numbers_of(w),
+        out,
+    ) {
         WriteAnswer::Wrote(bytes) => answered(bytes, value),
         WriteAnswer::Refused(refusal) => refused(refusal, value),
     }

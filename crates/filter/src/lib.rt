@@ -1,12 +1,11 @@
 // A program of lines: each line of standard input answered on standard output, behind the program's header.
 // Reads, feeds and writes; a failed read or write ends the run, with what was answered so far written out and a message on standard error.
 ghost use mathlib.Core.Path.{_≡_};
-ghost use Prim.Native.Nat.{_+_, _*_, _≤_};
+ghost use Prim.Native.Nat.{_≤_};
 ghost use lib.ListN.{length, take};
 ghost use Rattle.io.specs.Counts.{clamped};
 ghost use Rattle.rules.specs.TheWord.{atFront};
-ghost use Rattle.lines.specs.Appending.{mostInLine};
-ghost use Rattle.stream.specs.Feeding.{feeding, fedOf};
+ghost use Rattle.stream.specs.Feeding.{feeding, roomFor, fedOf};
 use libc::STDERR_FILENO;
 use libc::STDIN_FILENO;
 use libc::STDOUT_FILENO;
@@ -15,10 +14,10 @@ use rules::WriteAnswer;
 use stream::Begun;
 use stream::Fed;
 
-// A block, and an output with room for all its answers: six bytes for each of its bytes, and an answer to the line that had begun before it.
+// A block, and an output with room for all its answers: twelve bytes for each of its bytes, and an answer to the line that had begun before it.
 const BLOCK: usize = 16384;
 
-const OUTPUT: usize = 256 + 6 * BLOCK;
+const OUTPUT: usize = 512 + 12 * BLOCK;
 
 // What follows a read: more of the input, its end, or a failure.
 enum Next {
@@ -35,6 +34,9 @@ struct Passed {
 fn complain(program: Program, failed: &[u8]) {
     match program {
         Program::Drill => {
+            io::write_all(STDERR_FILENO, b"drill: cannot ");
+        }
+        Program::DrillWithKeys => {
             io::write_all(STDERR_FILENO, b"drill: cannot ");
         }
         Program::Spell => {
@@ -54,7 +56,7 @@ fn written(program: Program, text: &[u8]) -> bool {
 
 // A block fed whole: an output as long as this has room for all its answers, so nothing of it is left.
 fn feed(state: Begun, block: &[u8], out: &mut [u8]) -> Fed
-    requires { ⌜ mostInLine + 6 * length (now block) ≤ length (now out) ⌝ }
+    requires { ⌜ roomFor (length (now block)) ≤ length (now out) ⌝ }
     ensures { λ r. ⌜ (r ≡ fedOf 0 (feeding state (now (block .entry)) (length (now (out .entry))))) × (now (out .exit) ≡ atFront (feeding state (now (block .entry)) (length (now (out .entry))) .text) (now (out .entry))) × (r .taken ≡ length (now (block .entry))) ⌝ }
 {
     stream::feed(state, block, 0, out)
@@ -62,7 +64,7 @@ fn feed(state: Begun, block: &[u8], out: &mut [u8]) -> Fed
 
 // The answers to a block, and the state after all of it.
 fn answer(state: Begun, block: &[u8], out: &mut [u8]) -> Passed
-    requires { ⌜ mostInLine + 6 * length (now block) ≤ length (now out) ⌝ }
+    requires { ⌜ roomFor (length (now block)) ≤ length (now out) ⌝ }
     ensures { λ r. ⌜ r .state ≡ feeding state (now (block .entry)) (length (now (out .entry))) .state ⌝ }
 {
     let program = state.program;
@@ -82,7 +84,7 @@ fn answer(state: Begun, block: &[u8], out: &mut [u8]) -> Passed
 
 // The answers to what a read brought, and the state after all of it.
 fn pass(state: Begun, got: isize, block: &[u8], out: &mut [u8]) -> Passed
-    requires { ⌜ mostInLine + 6 * length (now block) ≤ length (now out) ⌝ }
+    requires { ⌜ roomFor (length (now block)) ≤ length (now out) ⌝ }
     ensures { λ r. ⌜ r .state ≡ feeding state (take (clamped got (length (now (block .entry)))) (now (block .entry))) (length (now (out .entry))) .state ⌝ }
 {
     if got < 0 {
@@ -114,7 +116,7 @@ fn end(state: Begun, out: &mut [u8]) {
 
 // Nothing says that the input ends, so the loop counts its turns down, from a number that no run uses up.
 fn passes(program: Program, block: &mut [u8], out: &mut [u8])
-    requires { ⌜ mostInLine + 6 * length (now block) ≤ length (now out) ⌝ }
+    requires { ⌜ roomFor (length (now block)) ≤ length (now out) ⌝ }
 {
     let mut state = Begun::new(program);
     let mut turns = u64::MAX;

@@ -8,6 +8,7 @@ use Rattle.rules.specs.Letters.{Letter, Letters, same}
 use Rattle.rules.specs.TakingApart.{admitted, final}
 use Rattle.rules.specs.TheWord.{State}
 use Rattle.rules.specs.KeyRoles.{takesSecondHorn, hornOnUIf, append, change}
+use Rattle.rules.specs.declared.Touched.{Touched}
 use Rattle.rules.specs.declared.Act.{Act}
 use Rattle.rules.specs.declared.Role.{Role}
 use Rattle.rules.proofs.Edits.{Alike, end, kept, moved, Good, good, good-shape, good-stroke, alike-second}
@@ -41,10 +42,10 @@ pub record Left (v w : Letters) : Type 0 where
   pub ends : final v ≡ final w
   pub still : T (admitted v) → T (admitted w)
 
-pub left-good : {v w : Letters} {a : Act} → Good v (change a w) → Left v w
-left-good (good c r p h) = record { caps = capitals-alike r; ends = p; still = h }
+pub left-good : {v w : Letters} {a : Act} {g : Touched} → Good v (change a g w) → Left v w
+left-good (good c r y p h) = record { caps = capitals-alike r; ends = p; still = h }
 
-pub left : {r : Role} {s t : State} {a : Act} → Acts r s a t → Left (s .letters) (t .letters)
+pub left : {r : Role} {s t : State} {a : Act} {g : Touched} → Acts r s a g t → Left (s .letters) (t .letters)
 left (by-tone t c f) = record { caps = refl; ends = refl; still = λ h. h }
 left (by-clear c) = record { caps = refl; ends = refl; still = λ h. h }
 left (by-shape {s = s} {h = h} e) = left-good (subst (Good (s .letters)) e (good-shape h (s .letters)))

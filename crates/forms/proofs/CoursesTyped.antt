@@ -13,6 +13,7 @@ use Rattle.rules.specs.Speller.{keyOfLetter}
 use Rattle.rules.specs.Refusals.{all}
 use Rattle.rules.specs.declared.Role.{Role}
 use Rattle.rules.specs.declared.Role.the-variants.{ToneRole, ShapeRole, StrokeRole, NoRole}
+use Rattle.rules.specs.declared.Touched.{Touched}
 use Rattle.rules.specs.declared.Act.{Act}
 use Rattle.rules.proofs.Appends.{leaves-appended}
 use Rattle.rules.proofs.Commute.{Acts, by-shape, by-stroke, acted-if}
@@ -24,20 +25,21 @@ use Rattle.forms.proofs.Presses.{press, pressing, letter-of-key, letter
 use Rattle.forms.proofs.Capitals.{capitals-appended, same-capitals, left}
 
 -- a key of which it is computed that it changes letters
-pub acts-edit : (r : Role) (s : State) {a : Act} {u : Letters} → editBy r (s .letters) ≡ change a u → Acts r s a (withLetters s u)
+pub acts-edit : (r : Role) (s : State) {a : Act} {g : Touched} {u : Letters} → editBy r (s .letters) ≡ change a g u → Acts r s a g (withLetters s u)
 acts-edit (ToneRole t) s h = let z : _≡_ {A = ℕ} 0 1 = cc in absurd (omega arith)
 acts-edit (ShapeRole e) s h = by-shape h
 acts-edit StrokeRole s h = by-stroke h
 acts-edit NoRole s h = let z : _≡_ {A = ℕ} 0 1 = cc in absurd (omega arith)
 
-pub record Changed (e : Edit) (g : Letters → Bool) : Type 0 where
+pub record Changed (e : Edit) (f : Letters → Bool) : Type 0 where
   pub act : Act
+  pub touches : Touched
   pub to : Letters
-  pub is-so : e ≡ change act to
-  pub passes : T (g to)
+  pub is-so : e ≡ change act touches to
+  pub passes : T (f to)
 
-pub changed : (e : Edit) (g : Letters → Bool) → T (elim e [ nothing ↦ false | off v ↦ false | change a v ↦ g v ]) → Changed e g
-changed (change a v) g t = record { act = a; to = v; is-so = refl; passes = t }
+pub changed : (e : Edit) (f : Letters → Bool) → T (elim e [ nothing ↦ false | off g v ↦ false | change a g v ↦ f v ]) → Changed e f
+changed (change a g v) f t = record { act = a; touches = g; to = v; is-so = refl; passes = t }
 
 -- the capitals among the letters of a course
 abbrev pub itemCapitals : List Item → List Bool

@@ -51,8 +51,8 @@ walk mode f w (letter x ∷ xs) =
 walk mode f w (mark k ∷ xs) =
     elim (editBy (role mode k) w) [
       | nothing ↦ false
-      | off v ↦ false
-      | change a v ↦ walk mode f v xs
+      | off g v ↦ false
+      | change a g v ↦ walk mode f v xs
     ]
 
 -- typed from a new word, each item does as is said, and the letters are then these

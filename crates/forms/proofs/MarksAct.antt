@@ -17,6 +17,7 @@ use Rattle.rules.specs.declared.ToneKey.{ToneKey}
 use Rattle.rules.specs.declared.ToneKey.the-variants.{SetTone}
 use Rattle.rules.specs.declared.ShapeKey.{ShapeKey}
 use Rattle.rules.specs.declared.ShapeKey.the-variants.{CircumflexOn, Circumflex, Breve, Horn, HornBreve}
+use Rattle.rules.specs.declared.Touched.{Touched}
 use Rattle.rules.specs.declared.Act.{Act}
 use Rattle.rules.specs.declared.Act.the-variants.{Shape}
 use Rattle.rules.proofs.Tests.{either as or-else}
@@ -60,7 +61,7 @@ differ : (r q : Role) → T (apart r q) → Differ r q
 differ (ShapeRole r) StrokeRole t = shape-stroke
 differ StrokeRole (ShapeRole q) t = swapped shape-stroke
 
-tone-differs : (q : ToneKey) (r : Role) (v : Letters) {b : Act} {u : Letters} → editBy r v ≡ change b u → Differ (ToneRole q) r
+tone-differs : (q : ToneKey) (r : Role) (v : Letters) {b : Act} {g : Touched} {u : Letters} → editBy r v ≡ change b g u → Differ (ToneRole q) r
 tone-differs q (ToneRole r) v e = let z : _≡_ {A = ℕ} 0 1 = cc in absurd (omega arith)
 tone-differs q (ShapeRole r) v e = tone-shape
 tone-differs q StrokeRole v e = tone-stroke
@@ -86,29 +87,29 @@ first-so : (e f : Edit) {d : Edit} → T (isNothing e) → f ≡ d → first e f
 first-so nothing f t p = p
 
 module _ (v w : Letters) (c : capitals v ≡ capitals w) (k : (x : Letters) → T (same x w) → T (admitted x)) where
-  to-w : (x : Letters) {a : Act} → T (same x w) → Good v (change a x) → x ≡ w
-  to-w x t g = same-capitals x w t (sym (left-good g .caps) ∙ c)
+  to-w : (x : Letters) {a : Act} {g : Touched} → T (same x w) → Good v (change a g x) → x ≡ w
+  to-w x t q = same-capitals x w t (sym (left-good q .caps) ∙ c)
 
-  asked-so : (sh : ℕ) (f : Found) → Good v (asked sh f) → T (freshIs w f) → asked sh f ≡ change (Shape sh) w
-  asked-so sh (fresh x) g t =
-      let e = onlyIf-so (admitted x) (change (Shape sh) x) (k x t) in
-      e ∙ ap (change (Shape sh)) (to-w x t (subst (Good v) e g))
+  asked-so : (sh : ℕ) (f : Found) → Good v (asked sh f) → T (freshIs w f) → (a : Act) × (g : Touched) × (asked sh f ≡ change a g w)
+  asked-so sh (fresh g x) q t =
+      let e = onlyIf-so (admitted x) (change (Shape sh) g x) (k x t) in
+      (Shape sh, g, e ∙ ap (change (Shape sh) g) (to-w x t (subst (Good v) e q)))
 
-  led : (h : ShapeKey) → T (leads h v w) → (a : Act) × (shapeEdit h v ≡ change a w)
-  led (CircumflexOn b) t = (_, asked-so circumflex (circumflexOn b v) (good-shape (CircumflexOn b) v) t)
-  led Circumflex t = (_, asked-so circumflex (circumflexed v) (good-shape Circumflex v) t)
-  led Breve t = (_, asked-so breve (breved v) (good-shape Breve v) t)
-  led Horn t = (_, asked-so horn (horned v) (good-shape Horn v) t)
+  led : (h : ShapeKey) → T (leads h v w) → (a : Act) × (g : Touched) × (shapeEdit h v ≡ change a g w)
+  led (CircumflexOn b) t = asked-so circumflex (circumflexOn b v) (good-shape (CircumflexOn b) v) t
+  led Circumflex t = asked-so circumflex (circumflexed v) (good-shape Circumflex v) t
+  led Breve t = asked-so breve (breved v) (good-shape Breve v) t
+  led Horn t = asked-so horn (horned v) (good-shape Horn v) t
   led HornBreve t =
       let breves = asked-so breve (breved v) (good-shape Breve v) in
       or-else (freshIs w (horned v)) (isNothing (asked horn (horned v)) && freshIs w (breved v))
-      (λ t. (Shape horn, ap (λ (e : Edit). first e (asked breve (breved v))) (asked-so horn (horned v) (good-shape Horn v) t)))
-      (λ t. (Shape breve, first-so (asked horn (horned v)) (asked breve (breved v)) (search and-l) (breves (search and-r)))) t
+      (λ t. let (a, g, e) = asked-so horn (horned v) (good-shape Horn v) t in (a, g, ap (λ (e : Edit). first e (asked breve (breved v))) e))
+      (λ t. let (a, g, e) = breves (search and-r) in (a, g, first-so (asked horn (horned v)) (asked breve (breved v)) (search and-l) e)) t
 
-  changed-to : (e : Edit) → Good v e → T (changesTo w e) → (a : Act) × (e ≡ change a w)
-  changed-to (change a x) g t = (a, ap (change a) (to-w x t g))
+  changed-to : (e : Edit) → Good v e → T (changesTo w e) → (a : Act) × (g : Touched) × (e ≡ change a g w)
+  changed-to (change a g x) q t = (a, g, ap (change a g) (to-w x t q))
 
-  last-step : (r : Role) → T (lastStep w r v) → (a : Act) × (editBy r v ≡ change a w)
+  last-step : (r : Role) → T (lastStep w r v) → (a : Act) × (g : Touched) × (editBy r v ≡ change a g w)
   last-step (ShapeRole s) h = led s h
   last-step StrokeRole h = changed-to (strokeEdit v) (good-stroke v) h
 
@@ -122,7 +123,7 @@ pub record Chained (w v : Letters) (rs : List Role) (t : ℕ) : Type 0 where
 pub chained : (w : Letters) (rs : List Role) (v : Letters) (t : ℕ) → ((x : Letters) → T (same x w) → T (admitted x)) → capitals v ≡ capitals w → T (chain w rs v) → Chained w v rs t
 chained w [] v t k c h = record { run = subst (λ (u : Letters). Runs (openWord v t) [] (openWord u t)) (same-capitals v w h c) stop; apart = no-more; each = none; not-tones = none }
 chained w (r ∷ []) v t k c h =
-    let (a, e) = last-step v w c k r h in
+    let (a, g, e) = last-step v w c k r h in
     record { run = then (acts-edit r (openWord v t) e) stop; apart = and-from none no-more; each = also (can (acts-edit r (openWord v noTone) e)) none; not-tones = also (tone-differs (SetTone t) r v e) none }
 chained w (r ∷ q ∷ qs) v t k c h =
     let d = changed (editBy r v) (λ u. chain w (q ∷ qs) u && alone r (q ∷ qs) v) h in

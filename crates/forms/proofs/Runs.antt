@@ -7,6 +7,7 @@ use Rattle.rules.specs.Letters.{named}
 use Rattle.rules.specs.TheWord.{State, stateOf}
 use Rattle.rules.specs.KeyRoles.{role, letterOfKey, unlessClosed}
 use Rattle.rules.specs.declared.Role.{Role}
+use Rattle.rules.specs.declared.Touched.{Touched}
 use Rattle.rules.specs.declared.Act.{Act}
 use Rattle.rules.proofs.Commute.{Acts, Differ, swapped, acted-if, stays-open, commute}
 use Rattle.rules.specs.Syllables.{Picks, this-one, a-later-one, Order, all-taken, first-this}
@@ -24,12 +25,12 @@ pub data Apart : List Role → Type 0 where
 
 -- a key of this role would act
 pub data Can (s : State) (r : Role) : Type 0 where
-  can : {a : Act} {t : State} → Acts r s a t → Can s r
+  can : {a : Act} {g : Touched} {t : State} → Acts r s a g t → Can s r
 
 -- keys of these roles act, one after the other
 pub data Runs : State → List Role → State → Type 0 where
   stop : {s : State} → Runs s [] s
-  then : {r : Role} {rs : List Role} {s t u : State} {a : Act} → Acts r s a t → Runs t rs u → Runs s (r ∷ rs) u
+  then : {r : Role} {rs : List Role} {s t u : State} {a : Act} {g : Touched} → Acts r s a g t → Runs t rs u → Runs s (r ∷ rs) u
 
 runs-from : {rs : List Role} {s t u : State} → s ≡ t → Runs s rs u → Runs t rs u
 runs-from {rs} {u = u} e r = subst (λ (s : State). Runs s rs u) e r
@@ -48,7 +49,7 @@ runs-left (then g r) =
     record { caps = a .caps ∙ b .caps; ends = a .ends ∙ b .ends; still = λ h. b .still (a .still h) }
 
 -- a key acts in one way only
-unique : {r : Role} {s t u : State} {a b : Act} → Acts r s a t → Acts r s b u → t ≡ u
+unique : {r : Role} {s t u : State} {a b : Act} {g h : Touched} → Acts r s a g t → Acts r s b h u → t ≡ u
 unique g h = ap stateOf (sym (acted-if (named 0) g) ∙ acted-if (named 0) h)
 
 record Picked (P : Role → Type 0) (r : Role) (qs : List Role) : Type 0 where
@@ -71,27 +72,28 @@ picked-apart (a-later-one p) (and-from d x) =
     record { differs = also (swapped (f .one)) (e .differs); apart = and-from (f .others) (e .apart) }
 
 -- what would act still would after a key of another family
-after-other : {r q : Role} {s t : State} {a : Act} → Acts r s a t → Differ r q → Can s q → Can t q
-after-other g d (can h) = can (commute d g h .1)
+after-other : {r q : Role} {s t : State} {a : Act} {g : Touched} → Acts r s a g t → Differ r q → Can s q → Can t q
+after-other g d (can h) = can (commute d g h .second)
 
-after : {r : Role} {rs : List Role} {s t : State} {a : Act} → Acts r s a t → Each (Differ r) rs → Each (Can s) rs → Each (Can t) rs
+after : {r : Role} {rs : List Role} {s t : State} {a : Act} {g : Touched} → Acts r s a g t → Each (Differ r) rs → Each (Can s) rs → Each (Can t) rs
 after g none none = none
 after g (also d e) (also c f) = also (after-other g d c) (after g e f)
 
 -- the one that is picked goes first, the rest follow, with the same result
 record First (r : Role) (s : State) (qs : List Role) (u : State) : Type 0 where
   act : Act
+  touches : Touched
   to : State
-  acts : Acts r s act to
+  acts : Acts r s act touches to
   rest : Runs to qs u
 
-sooner : {r q : Role} {qs : List Role} {s t u : State} {a : Act} → Acts q s a t → Differ q r → Can s r → First r t qs u → First r s (q ∷ qs) u
+sooner : {r q : Role} {qs : List Role} {s t u : State} {a : Act} {g : Touched} → Acts q s a g t → Differ q r → Can s r → First r t qs u → First r s (q ∷ qs) u
 sooner g d (can h) f =
     let c = commute d g h in
-    record { act = _; to = _; acts = h; rest = then (c .2) (runs-from (unique (f .acts) (c .1)) (f .rest)) }
+    record { act = _; touches = _; to = _; acts = h; rest = then (c .first) (runs-from (unique (f .acts) (c .second)) (f .rest)) }
 
 first : {r : Role} {rs qs : List Role} {s u : State} → Picks r rs qs → Apart rs → Each (Can s) rs → Runs s rs u → First r s qs u
-first this-one x c (then g r) = record { act = _; to = _; acts = g; rest = r }
+first this-one x c (then g r) = record { act = _; touches = _; to = _; acts = g; rest = r }
 first (a-later-one p) (and-from d x) (also c e) (then g r) = sooner g (picked p d .one) (picked p e .one) (first p x (after g d e) r)
 
 pub any-order : {rs zs : List Role} {s u : State} → Order rs zs → Apart rs → Each (Can s) rs → Runs s rs u → Runs s zs u

@@ -17,18 +17,18 @@ use Rattle.forms.proofs.KeyCourses.{letter, course, bare, editBy, types
 
 abbrev pub isChange : Edit → Bool
 isChange nothing = false
-isChange (off w) = false
-isChange (change a w) = true
+isChange (off g w) = false
+isChange (change a g w) = true
 
 abbrev pub isNothing : Edit → Bool
 isNothing nothing = true
-isNothing (off w) = false
-isNothing (change a w) = false
+isNothing (off g w) = false
+isNothing (change a g w) = false
 
 abbrev pub changesTo : Letters → Edit → Bool
 changesTo w nothing = false
-changesTo w (off v) = false
-changesTo w (change a v) = same v w
+changesTo w (off g v) = false
+changesTo w (change a g v) = same v w
 
 abbrev pub isStroke : Role → Bool
 isStroke (ToneRole t) = false
@@ -57,8 +57,8 @@ alone r (q ∷ qs) v = apart r q && (isChange (editBy q v) && alone r qs v)
 -- a search finds letters that are these, but for their case
 abbrev pub freshIs : Letters → Found → Bool
 freshIs w nowhere = false
-freshIs w (already v) = false
-freshIs w (fresh v) = same v w
+freshIs w (already g v) = false
+freshIs w (fresh g v) = same v w
 
 -- a shape key leads from v to w, where w is admitted
 abbrev pub leads : ShapeKey → Letters → Letters → Bool
@@ -81,8 +81,8 @@ chain w (r ∷ []) v = lastStep w r v
 chain w (r ∷ q ∷ qs) v =
     elim (editBy r v) [
       | nothing ↦ false
-      | off u ↦ false
-      | change a u ↦ chain w (q ∷ qs) u && alone r (q ∷ qs) v
+      | off g u ↦ false
+      | change a g u ↦ chain w (q ∷ qs) u && alone r (q ∷ qs) v
     ]
 
 -- the bare letters are appended, each as a letter, and the marks act on them and give the word

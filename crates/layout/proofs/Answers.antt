@@ -1,25 +1,30 @@
--- The answers of read and write by their tests; and the bytes that write leaves are the record's.
+-- The answers of read and write by their tests; the record that read finds is that of the bytes, and the bytes that write leaves are the record's.
 use mathlib.Core.Path.{_≡_, refl, sym, ap, ap₂, _∙_}
 use mathlib.Core.Bool.{Bool, true, false, _&&_, _||_}
-use mathlib.Core.List.{List, [], _∷_, _++_, append-nil}
-use Prim.Native.Nat.{ℕ, zero, suc, _≤_, _<_}
+use mathlib.Core.List.{List, [], _∷_, _++_, append-nil, append-assoc}
+use Prim.Native.Nat.{ℕ, zero, suc, _+_, _≤_, _<_}
 use native.Mathlib.Omega.{arith}
 use borrow.Author.Tests.{eq-eqb, ne-eqb}
 use borrow.Rule.Slice.PartMut.{putMid}
 use mir.Val.{boolByte}
-use lib.ListN.{length, take, drop, set, length-set, length-drop, drop-of-length-le}
-use lib.Seq.{take-length, take-at, drop-at}
+use lib.ListN.{length, take, drop, set, replicate, length-append, length-take, length-drop, length-set, drop-of-length-le}
+use lib.Seq.{take-length, take-at, drop-at, drop-cons, drop-drop, set-at}
 use Rattle.rules.specs.declared.Word.{Word}
-use Rattle.layout.specs.Places.{pairs, markByte, byte, isLong, isMark, noRecord, recordIf, asRecord, recordWrittenIf, recordWritten}
+use Rattle.rules.proofs.StaysInRange.{Whole}
+use Rattle.layout.proofs.Pairs.{length-pairs}
+use Rattle.layout.specs.Places.{pairs, numbers, markByte, byte, part, isLong, isMark, wordFrom, noRecord, recordIf, asRecord, recordWrittenIf, recordWritten}
 
--- a record with another mark and other arrays
-abbrev pub withParts : Word → Bool → List ℕ → List ℕ → Word
-withParts w closed keys letters =
+-- a record with another mark, other arrays and another place of the tone's key
+abbrev pub withParts : Word → Bool → List ℕ → List ℕ → List ℕ → List ℕ → ℕ → Word
+withParts w closed keys letters by shaped toned =
     record {
       mode = w .mode;
       letters = letters;
+      «appended_by» = by;
+      «shaped_by» = shaped;
       count = w .count;
       tone = w .tone;
+      «toned_by» = toned;
       closed = closed;
       keys = keys;
       typed = w .typed;
@@ -28,9 +33,20 @@ withParts w closed keys letters =
       appended = w .appended;
     }
 
--- a whole text of its room's length, copied into it
-pub copied : (src old : List ℕ) → length src ≡ 32 → length old ≡ 32 → take (length src) src ++ drop (length src) old ≡ src
-copied src old m n = ap₂ _++_ (take-length src) (drop-of-length-le old {i = length src} (omega arith)) ∙ append-nil src
+pub length-part : (place many : ℕ) (bs : List ℕ) → place + many ≤ length bs → length (part place many bs) ≡ many
+length-part place many bs h = simp (length-take, length-drop) (omega arith)
+
+pub last-byte : (place : ℕ) (bs : List ℕ) → length bs ≡ place + 1 → drop place bs ≡ byte place bs ∷ []
+last-byte place bs e = drop-cons bs place 0 (omega arith) ∙ ap (λ (l : List ℕ). byte place bs ∷ l) (drop-of-length-le bs {i = suc place} (omega arith))
+
+-- what `bytes::copy` leaves: of a text copied into a part of its length, the text
+abbrev copyOf : List ℕ → List ℕ → List ℕ
+copyOf src old = take (length src) src ++ drop (length src) old
+
+copied : (many : ℕ) (src old : List ℕ) → length src ≡ many → copyOf src (take many old) ≡ src
+copied many src old e =
+    let room : length (take many old) ≤ length src = simp length-take (omega arith) in
+    ap₂ _++_ (take-length src) (drop-of-length-le (take many old) {i = length src} room) ∙ append-nil src
 
 is-mark : (m : ℕ) → m ≤ 1 → isMark m ≡ true
 is-mark zero h = refl
@@ -41,20 +57,32 @@ pub no-mark : (m : ℕ) → 1 < m → isMark m ≡ false
 no-mark m h = ap₂ _||_ (ne-eqb m 0 (λ e. omega arith)) (ne-eqb m 1 (λ e. omega arith))
 
 module _ (bs : List ℕ) where
-  pub another-length : (length bs ≡ 104 → ⊥) → noRecord ≡ asRecord bs
+  pub another-length : (length bs ≡ 169 → ⊥) → noRecord ≡ asRecord bs
   unfolding asRecord
-  another-length h = sym (ap (λ (b : Bool). recordIf (b && isMark (byte 3 bs)) bs) (ne-eqb (length bs) 104 h))
+  another-length h = sym (ap (λ (b : Bool). recordIf (b && isMark (byte 3 bs)) bs) (ne-eqb (length bs) 169 h))
 
-  module _ (long : length bs ≡ 104) where
+  module _ (long : length bs ≡ 169) where
     marked : (b : Bool) → isMark (byte 3 bs) ≡ b → asRecord bs ≡ recordIf b bs
     unfolding asRecord
-    marked b e = ap₂ (λ (l m : Bool). recordIf (l && m) bs) (eq-eqb (length bs) 104 long) e
+    marked b e = ap₂ (λ (l m : Bool). recordIf (l && m) bs) (eq-eqb (length bs) 169 long) e
 
     pub another-mark : 1 < byte 3 bs → noRecord ≡ asRecord bs
     another-mark h = sym (marked false (no-mark (byte 3 bs) h))
 
-    pub is-record : byte 3 bs ≤ 1 → recordIf true bs ≡ asRecord bs
-    is-record h = sym (marked true (is-mark (byte 3 bs) h))
+    -- a part copied out
+    part-read : {new : List ℕ} (place : ℕ) → place + 32 ≤ 169 → new ≡ copyOf (part place 32 bs) (replicate 32 0) → new ≡ part place 32 bs
+    part-read place h e = e ∙ copied 32 (part place 32 bs) (replicate 32 0) (length-part place 32 bs (omega arith))
+
+    pub all-read : {keys letters by shaped : List ℕ} → byte 3 bs ≤ 1 → keys ≡ copyOf (part 8 32 bs) (replicate 32 0) → letters ≡ numbers (part 40 64 bs) →
+        by ≡ copyOf (part 104 32 bs) (replicate 32 0) → shaped ≡ copyOf (part 136 32 bs) (replicate 32 0) →
+        record { is_record = true; word = withParts (wordFrom bs) (wordFrom bs .closed) keys letters by shaped (wordFrom bs .«toned_by») } ≡ asRecord bs
+    all-read h p q r s =
+        (λ j.
+        record {
+          is_record = true;
+          word = withParts (wordFrom bs) (wordFrom bs .closed) (part-read 8 (omega arith) p j) (q j) (part-read 104 (omega arith) r j) (part-read 136 (omega arith) s j) (wordFrom bs .«toned_by»);
+        }) ∙
+        sym (marked true (is-mark (byte 3 bs) h))
 
 -- the eight numbers, written one by one
 pub eight : (a b c d e f g h : ℕ) (l : List ℕ) → 8 ≤ length l →
@@ -80,35 +108,72 @@ headed w l =
 pub length-headed : (w : Word) (l : List ℕ) → length (headed w l) ≡ length l
 length-headed w l = simp length-set
 
+-- a buffer with each part put into its place
+abbrev pub putKeys : List ℕ → List ℕ → List ℕ
+putKeys = putMid 8 32
+
+abbrev pub putLetters : List ℕ → List ℕ → List ℕ
+putLetters = putMid 40 64
+
+abbrev pub putBy : List ℕ → List ℕ → List ℕ
+putBy = putMid 104 32
+
+abbrev pub putShaped : List ℕ → List ℕ → List ℕ
+putShaped = putMid 136 32
+
+-- so far: the front stands in the first places, and the others are as they were
+record Filled (old front : List ℕ) (place : ℕ) (bs : List ℕ) : Type 0 where
+  long : length front ≡ place
+  so : bs ≡ front ++ drop place old
+
+-- a part more, behind the front
+filled : {old front bs put new : List ℕ} {place : ℕ} (many : ℕ) → put ≡ new → length new ≡ many → Filled old front place bs →
+    Filled old (front ++ new) (place + many) (putMid place many bs put)
+filled {old} {front} {bs} {put} {new} {place} many p e f =
+    let rest = drop place old in
+    record {
+      long = length-append front new ∙ omega (arith, f .long);
+      so =
+          ap₂ (putMid place many) (f .so) p ∙
+          ap₂ (λ (x y : List ℕ). x ++ (new ++ drop many y)) (take-at front rest place (f .long)) (drop-at front rest place (f .long)) ∙
+          sym (append-assoc front new (drop many rest)) ∙ ap (λ (l : List ℕ). (front ++ new) ++ l) (drop-drop many place old);
+    }
+
+-- a part that is copied
+filled-copy : {old front bs put : List ℕ} {place : ℕ} (new : List ℕ) (many : ℕ) → put ≡ copyOf new (part place many bs) → length new ≡ many → Filled old front place bs →
+    Filled old (front ++ new) (place + many) (putMid place many bs put)
+filled-copy {bs = bs} {place = place} new many p e f = filled many (p ∙ copied many new (drop place bs) e) e f
+
+-- and the last byte
+filled-up : {old front bs : List ℕ} {place : ℕ} (n : ℕ) → length old ≡ place + 1 → Filled old front place bs → set bs place n ≡ front ++ n ∷ []
+filled-up {old} {front} {bs} {place} n e f =
+    ap (λ (l : List ℕ). set l place n) (f .so ∙ ap (λ (l : List ℕ). front ++ l) (last-byte place old e)) ∙ set-at front (byte place old) [] n place (f .long)
+
 module _ (w : Word) (old : List ℕ) where
-  pub nothing-written : (length old ≡ 104 → ⊥) → (false ≡ isLong old) × (old ≡ recordWritten w old)
+  pub nothing-written : (length old ≡ 169 → ⊥) → (false ≡ isLong old) × (old ≡ recordWritten w old)
   unfolding recordWritten
-  nothing-written h = let e = ne-eqb (length old) 104 h in (sym e, sym (ap (λ (b : Bool). recordWrittenIf b w old) e))
+  nothing-written h = let e = ne-eqb (length old) 169 h in (sym e, sym (ap (λ (b : Bool). recordWrittenIf b w old) e))
 
-  module _ (long : length old ≡ 104) (keys : length (w .keys) ≡ 32) where
+  module _ (long : length old ≡ 169) (whole : Whole w) where
     abbrev head : List ℕ
-    head = w .mode ∷ w .count ∷ w .tone ∷ boolByte (w .closed) ∷ w .typed ∷ w .acted ∷ w .undone ∷ w .appended ∷ []
+    head = w .mode ∷ w .count ∷ w .tone ∷ markByte (w .closed) ∷ w .typed ∷ w .acted ∷ w .undone ∷ w .appended ∷ []
 
-    head-so : headed w old ≡ head ++ drop 8 old
-    head-so = eight (w .mode) (w .count) (w .tone) (boolByte (w .closed)) (w .typed) (w .acted) (w .undone) (w .appended) old (omega arith)
+    head-filled : Filled old head 8 (headed w old)
+    head-filled =
+        record {
+          long = refl;
+          so =
+              eight (w .mode) (w .count) (w .tone) (boolByte (w .closed)) (w .typed) (w .acted) (w .undone) (w .appended) old (omega arith) ∙
+              ap (λ (m : ℕ). w .mode ∷ w .count ∷ w .tone ∷ m ∷ w .typed ∷ w .acted ∷ w .undone ∷ w .appended ∷ drop 8 old) (mark-byte (w .closed));
+        }
 
-    -- with the keys, and with the letters
-    with-keys : putMid 8 32 (headed w old) (w .keys) ≡ (head ++ w .keys) ++ drop 32 (drop 8 old)
-    with-keys = ap (λ (l : List ℕ). putMid 8 32 l (w .keys)) head-so
-
-    pub all-written : (ks ps : List ℕ) → ks ≡ w .keys → ps ≡ pairs (w .letters) →
-        (true ≡ isLong old) × (putMid 40 64 (putMid 8 32 (headed w old) ks) ps ≡ recordWritten w old)
+    pub all-written : {keys letters by shaped : List ℕ} → keys ≡ copyOf (w .keys) (part 8 32 (headed w old)) → letters ≡ pairs (w .letters) →
+        by ≡ copyOf (w .«appended_by») (part 104 32 (putLetters (putKeys (headed w old) keys) letters)) →
+        shaped ≡ copyOf (w .«shaped_by») (part 136 32 (putBy (putLetters (putKeys (headed w old) keys) letters) by)) →
+        (true ≡ isLong old) × (set (putShaped (putBy (putLetters (putKeys (headed w old) keys) letters) by) shaped) 168 (w .«toned_by») ≡ recordWritten w old)
     unfolding recordWritten
-    all-written ks ps p q =
-        let e = eq-eqb (length old) 104 long in
-        let rest = drop 32 (drop 8 old) in
-        let front : length (head ++ w .keys) ≡ 40 = omega (arith, keys) in
-        let back : length rest ≤ 64 = simp length-drop (omega arith) in (
-          sym e,
-          ap₂ (λ (k s : List ℕ). putMid 40 64 (putMid 8 32 (headed w old) k) s) p q ∙ ap (λ (l : List ℕ). putMid 40 64 l (pairs (w .letters))) with-keys ∙
-              ap₂ (λ (x y : List ℕ). x ++ (pairs (w .letters) ++ y)) (take-at (head ++ w .keys) rest 40 front)
-              (ap (drop 64) (drop-at (head ++ w .keys) rest 40 front) ∙ drop-of-length-le rest back) ∙
-              ap (λ (x : List ℕ). (head ++ w .keys) ++ x) (append-nil (pairs (w .letters))) ∙
-              ap (λ (m : ℕ). w .mode ∷ w .count ∷ w .tone ∷ m ∷ w .typed ∷ w .acted ∷ w .undone ∷ w .appended ∷ (w .keys ++ pairs (w .letters))) (mark-byte (w .closed)) ∙
-              sym (ap (λ (b : Bool). recordWrittenIf b w old) e),
-        )
+    all-written p q r s =
+        let e = eq-eqb (length old) 169 long in
+        let lettered = filled 64 q (length-pairs (w .letters) ∙ omega (arith, whole .letters)) (filled-copy (w .keys) 32 p (whole .keys) head-filled) in
+        let placed = filled-copy (w .«shaped_by») 32 s (whole .shaped-by) (filled-copy (w .«appended_by») 32 r (whole .by) lettered) in
+        (sym e, filled-up (w .«toned_by») long placed ∙ sym (ap (λ (b : Bool). recordWrittenIf b w old) e))

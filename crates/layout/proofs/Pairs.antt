@@ -48,6 +48,10 @@ module _ (bs : List ℕ) (long : length bs ≡ 64) where
       let many = length-numbers 32 bs long in
       sym (take-all i letters (omega (arith, so .places))) ∙ so .front ∙ take-all i (numbers bs) (omega arith)
 
+pub length-pairs : (ns : List ℕ) → length (pairs ns) ≡ 2 * length ns
+length-pairs [] = refl
+length-pairs (n ∷ ns) = omega (arith, length-pairs ns)
+
 pairs-snoc : (ns : List ℕ) (n : ℕ) → pairs (ns ++ (n ∷ [])) ≡ pairs ns ++ (n % 256 ∷ n / 256 ∷ [])
 pairs-snoc [] n = refl
 pairs-snoc (m ∷ ns) n = ap (λ (l : List ℕ). m % 256 ∷ m / 256 ∷ l) (pairs-snoc ns n)

@@ -1,4 +1,4 @@
--- The word's record as 104 bytes at fixed places, and read back.
+-- The word's record as 169 bytes at fixed places, and read back.
 use mathlib.Core.Bool.{Bool, true, false, _&&_, _||_}
 use mathlib.Core.List.{List, [], _∷_, _++_}
 use Prim.Native.Nat.{ℕ, _+_, _*_, _/_, _%_}
@@ -24,32 +24,41 @@ abbrev pub markByte : Bool → ℕ
 markByte true = 1
 markByte false = 0
 
--- 0 mode, 1 count of letters, 2 tone, 3 mark, 4 keys typed, 5 acted, 6 undone, 7 appended, 8 to 39 the keys, 40 to 103 the letters
+-- 0 mode, 1 count of letters, 2 tone, 3 mark, 4 keys typed, 5 acted, 6 undone, 7 appended, 8 to 39 the keys, 40 to 103 the letters;
+-- 104 to 135 the places of the keys that appended the letters, 136 to 167 of those that shaped them, 168 of the one that set the tone
 abbrev pub asBytes : Word → List ℕ
 asBytes w =
-    w .mode ∷ w .count ∷ w .tone ∷ markByte (w .closed) ∷ w .typed ∷ w .acted ∷ w .undone ∷ w .appended ∷ w .keys ++ pairs (w .letters)
+    w .mode ∷ w .count ∷ w .tone ∷ markByte (w .closed) ∷ w .typed ∷ w .acted ∷ w .undone ∷ w .appended ∷
+    w .keys ++ pairs (w .letters) ++ w .«appended_by» ++ w .«shaped_by» ++ w .«toned_by» ∷ []
 
 abbrev pub byte : ℕ → List ℕ → ℕ
 byte place bs = getD bs place 0
+
+-- so many bytes from a place on
+abbrev pub part : ℕ → ℕ → List ℕ → List ℕ
+part place many bs = take many (drop place bs)
 
 abbrev pub wordFrom : List ℕ → Word
 wordFrom bs =
     record {
       mode = byte 0 bs;
-      letters = numbers (take 64 (drop 40 bs));
+      letters = numbers (part 40 64 bs);
+      «appended_by» = part 104 32 bs;
+      «shaped_by» = part 136 32 bs;
       count = byte 1 bs;
       tone = byte 2 bs;
+      «toned_by» = byte 168 bs;
       closed = eqb (byte 3 bs) 1;
-      keys = take 32 (drop 8 bs);
+      keys = part 8 32 bs;
       typed = byte 4 bs;
       acted = byte 5 bs;
       undone = byte 6 bs;
       appended = byte 7 bs;
     }
 
--- 104 bytes, with a mark of 0 or 1
+-- 169 bytes, with a mark of 0 or 1
 abbrev pub isLong : List ℕ → Bool
-isLong bs = eqb (length bs) 104
+isLong bs = eqb (length bs) 169
 
 abbrev pub isMark : ℕ → Bool
 isMark n = eqb n 0 || eqb n 1
@@ -64,7 +73,7 @@ recordIf false bs = noRecord
 unfoldable pub asRecord : List ℕ → RecordRead
 asRecord bs = recordIf (isLong bs && isMark (byte 3 bs)) bs
 
--- a buffer of 104 bytes with a record written into it; another is left as it was
+-- a buffer of 169 bytes with a record written into it; another is left as it was
 abbrev pub recordWrittenIf : Bool → Word → List ℕ → List ℕ
 recordWrittenIf true w old = asBytes w
 recordWrittenIf false w old = old

@@ -1,13 +1,14 @@
-// The word's record as 104 bytes at fixed places, as C lends it: no struct and no bool crosses.
+// The word's record as 169 bytes at fixed places, as C lends it: no struct and no bool crosses.
 // 0 mode, 1 count of letters, 2 tone, 3 closed mark (0 open, 1 closed), 4 keys typed, 5 acted, 6 undone, 7 appended,
-// 8 to 39 the keys, 40 to 103 the letters, two bytes each, low byte first.
+// 8 to 39 the keys, 40 to 103 the letters, two bytes each, low byte first; then the keys' places: 104 to 135 of those that
+// appended the letters, 136 to 167 of those that shaped them, 168 of the one that set the tone.
 ghost use mathlib.Core.Path.{_≡_};
 ghost use Prim.Native.Nat.{_+_, _*_, _/_, _%_};
 ghost use lib.ListN.{length};
 ghost use Rattle.layout.specs.Places.{pairs, numbers, isLong, noRecord, asRecord, recordWritten};
 use rules::Word;
 
-pub const LENGTH: usize = 104;
+pub const LENGTH: usize = 169;
 
 // What bytes are: a record or none, and the word then; a new Telex word where they are none.
 pub struct RecordRead {
@@ -69,7 +70,7 @@ fn put_letters(letters: &[u16], out: &mut [u8])
     }
 }
 
-// The record that bytes are. None, with a new Telex word, where they are not 104 or the mark is neither 0 nor 1.
+// The record that bytes are. None, with a new Telex word, where they are not 169 or the mark is neither 0 nor 1.
 pub fn read(buffer: &[u8]) -> RecordRead
     ensures { λ r. ⌜ r ≡ asRecord (now (buffer .entry)) ⌝ }
 {
@@ -82,14 +83,21 @@ pub fn read(buffer: &[u8]) -> RecordRead
     }
     let mut keys = [0; Word::KEYS];
     bytes::copy(&buffer[8..40], &mut keys);
-    let letters = letters_in(&buffer[40..LENGTH]);
+    let letters = letters_in(&buffer[40..104]);
+    let mut appended_by = [0; Word::KEYS];
+    bytes::copy(&buffer[104..136], &mut appended_by);
+    let mut shaped_by = [0; Word::KEYS];
+    bytes::copy(&buffer[136..168], &mut shaped_by);
     RecordRead {
         is_record: true,
         word: Word {
             mode: buffer[0],
             letters: letters,
+            appended_by: appended_by,
+            shaped_by: shaped_by,
             count: buffer[1],
             tone: buffer[2],
+            toned_by: buffer[168],
             closed: mark == 1,
             keys: keys,
             typed: buffer[4],
@@ -100,7 +108,7 @@ pub fn read(buffer: &[u8]) -> RecordRead
     }
 }
 
-// The record's bytes. False, and nothing written, where there is not room for exactly 104.
+// The record's bytes. False, and nothing written, where there is not room for exactly 169.
 pub fn write(w: Word, buffer: &mut [u8]) -> bool
     ensures { λ r. ⌜ (r ≡ isLong (now (buffer .entry))) × (now (buffer .exit) ≡ recordWritten w (now (buffer .entry))) ⌝ }
 {
@@ -118,6 +126,11 @@ pub fn write(w: Word, buffer: &mut [u8]) -> bool
     let keys = w.keys;
     bytes::copy(&keys, &mut buffer[8..40]);
     let letters = w.letters;
-    put_letters(&letters, &mut buffer[40..LENGTH]);
+    put_letters(&letters, &mut buffer[40..104]);
+    let appended_by = w.appended_by;
+    bytes::copy(&appended_by, &mut buffer[104..136]);
+    let shaped_by = w.shaped_by;
+    bytes::copy(&shaped_by, &mut buffer[136..168]);
+    buffer[168] = w.toned_by;
     true
 }

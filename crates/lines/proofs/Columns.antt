@@ -6,17 +6,17 @@ use Prim.Native.Nat.{ℕ, _+_, _-_, _/_, _%_, _≤_, _<_}
 use Prim.Native.Char.{code}
 use native.Mathlib.Numerals.{add-one}
 use native.Mathlib.Omega.{arith}
-use borrow.Author.Tests.{lt-ltb, le-ltb}
-use lib.Dec.{ltb, lit≤}
+use borrow.Author.Tests.{eq-eqb, ne-eqb, lt-ltb, le-ltb}
+use lib.Dec.{eqb, ltb, lit≤}
 use lib.ListN.{length, take, drop, set, length-append, length-take, length-drop, length-set}
 use lib.Seq.{take-length, take-all, take-at, take-suc-set, length-take-le}
 use Rattle.rules.specs.Decision.{handedBack}
-use Rattle.rules.specs.Drill.{newline, decimal, orHyphen, placeColumn, columns}
+use Rattle.rules.specs.Drill.{newline, decimal, orHyphen, placeColumn, joined, columns, placeOrHyphen}
 use Rattle.rules.specs.declared.Place.{Place}
 use Rattle.rules.specs.declared.Place.the-variants.{At, Nowhere}
 use Rattle.rules.specs.declared.Decision.{Decision}
 use Rattle.rules.specs.declared.Decision.the-variants.{Keep, Restore}
-use Rattle.lines.specs.Appending.{Appends}
+use Rattle.lines.specs.Appending.{Appends, endedBy}
 
 -- a part copied into the text, and a byte behind it
 module _ (text part : List ℕ) (at end : ℕ) (room : at + length part < length text) where
@@ -88,6 +88,23 @@ module _ (n end : ℕ) where
       go true = lit≤ tt
       go false = lit≤ tt
 
+  -- a key's place; 255 stands for no key
+  abbrev placeIf : Bool → List ℕ
+  placeIf b = elim b as (λ x. List ℕ) [ true ↦ code "-" ∷ [] | false ↦ decimal n ] ++ (end ∷ [])
+
+  pub no-key : n ≡ 255 → code "-" ∷ end ∷ [] ≡ placeOrHyphen n ++ (end ∷ [])
+  no-key h = sym (ap placeIf (eq-eqb n 255 h))
+
+  pub some-key : (n ≡ 255 → ⊥) → decimal n ++ (end ∷ []) ≡ placeOrHyphen n ++ (end ∷ [])
+  some-key h = sym (ap placeIf (ne-eqb n 255 h))
+
+  pub key-long : length (placeOrHyphen n ++ (end ∷ [])) ≤ 3
+  key-long = go (eqb n 255)
+    where
+      go : (b : Bool) → length (placeIf b) ≤ 3
+      go true = lit≤ tt
+      go false = decimal-long
+
 pub hyphen : (part : List ℕ) (end : ℕ) → length part ≡ 0 → code "-" ∷ end ∷ [] ≡ orHyphen part ++ (end ∷ [])
 hyphen [] end h = refl
 hyphen (b ∷ bs) end h = absurd (omega arith)
@@ -110,9 +127,21 @@ handed-long Keep shown keys end s k = omega (arith, hyphen-long shown end)
 handed-long Restore shown keys end s k = omega (arith, hyphen-long keys end)
 
 -- the columns of a line, one behind the other
-pub in-six : (a b c d e f : List ℕ)
-    → (a ++ (code " " ∷ [])) ++ ((b ++ (code " " ∷ [])) ++ ((c ++ (code " " ∷ [])) ++ ((d ++ (code " " ∷ [])) ++ ((e ++ (code " " ∷ [])) ++ (f ++ (newline ∷ [])))))) ≡ columns (a ∷ b ∷ c ∷ d ∷ e ∷ f ∷ [])
-in-six a b c d e f = simp append-assoc
+pub in-six : (a b c d e f : List ℕ) (end : ℕ)
+    → (a ++ (code " " ∷ [])) ++ ((b ++ (code " " ∷ [])) ++ ((c ++ (code " " ∷ [])) ++ ((d ++ (code " " ∷ [])) ++ ((e ++ (code " " ∷ [])) ++ (f ++ (end ∷ [])))))) ≡ endedBy end (a ∷ b ∷ c ∷ d ∷ e ∷ f ∷ [])
+in-six a b c d e f end = simp append-assoc
 
 pub in-three : (a b c : List ℕ) → (a ++ (code " " ∷ [])) ++ ((b ++ (code " " ∷ [])) ++ (c ++ (newline ∷ []))) ≡ columns (a ∷ b ∷ c ∷ [])
 in-three a b c = simp append-assoc
+
+pub in-two : (a b : List ℕ) (between end : ℕ) → (a ++ (between ∷ [])) ++ (b ++ (end ∷ [])) ≡ joined between (a ∷ b ∷ []) ++ (end ∷ [])
+in-two a b between end = simp append-assoc
+
+-- two lists of columns, none empty
+pub in-both : (cs ds : List (List ℕ)) → 0 < length cs → 0 < length ds → endedBy (code " ") cs ++ columns ds ≡ columns (cs ++ ds)
+in-both [] ds h k = absurd (omega arith)
+in-both (c ∷ cs) [] h k = absurd (omega arith)
+in-both (c ∷ []) (d ∷ ds) h k = simp append-assoc
+in-both (c ∷ b ∷ bs) (d ∷ ds) h k =
+    let e : endedBy (code " ") (c ∷ b ∷ bs) ++ columns (d ∷ ds) ≡ c ++ (code " " ∷ (endedBy (code " ") (b ∷ bs) ++ columns (d ∷ ds))) = simp append-assoc in
+    e ∙ ap (λ (l : List ℕ). c ++ (code " " ∷ l)) (in-both (b ∷ bs) (d ∷ ds) (omega arith) k) ∙ sym (append-assoc c (code " " ∷ joined (code " ") ((b ∷ bs) ++ (d ∷ ds))) (newline ∷ []))

@@ -1,4 +1,5 @@
 pub mod Columns
+pub mod KeyPlaces
 pub mod Words
 pub mod Spelled
 pub mod Starts

@@ -1,4 +1,4 @@
--- What a line is by its start, for both programs, and the whole answer by the text that is made.
+-- What a line is by its start, for each program, and the whole answer by the text that is made.
 use mathlib.Core.Path.{_≡_, refl, sym, ap, ap₂, _∙_}
 use mathlib.Core.Bool.{Bool, true, false}
 use mathlib.Core.List.{List, [], _∷_}
@@ -10,11 +10,11 @@ use lib.Dec.{eqb}
 use lib.ListN.{length, take, drop, getD, length-drop}
 use lib.Seq.{take-all}
 use Rattle.rules.specs.Letters.{telex, vni}
-use Rattle.rules.specs.Drill.{keysLine, noMode, modeBy, modeOf, answerLine}
+use Rattle.rules.specs.Drill.{wordLine, wordLineWithKeys, keysLine, noMode, modeBy, modeOf, answerLine, answerLineWithKeys}
 use Rattle.rules.specs.SpellProgram.{spelledLine, spellLine}
 use Rattle.output.specs.Front.{put}
 use Rattle.lines.specs.declared.Program.{Program}
-use Rattle.lines.specs.declared.Program.the-variants.{Drill, Spell}
+use Rattle.lines.specs.declared.Program.the-variants.{Drill, DrillWithKeys, Spell}
 use Rattle.lines.specs.Appending.{Appends}
 use Rattle.lines.specs.Programs.{answerOf, lineAnswer}
 
@@ -56,12 +56,14 @@ too-short (b ∷ c ∷ rest) h = absurd (omega arith)
 
 -- what a program answers behind the start
 abbrev pub restOf : Program → ℕ → List ℕ → List ℕ
-restOf Drill m rest = keysLine m rest
+restOf Drill m rest = keysLine wordLine m rest
+restOf DrillWithKeys m rest = keysLine wordLineWithKeys m rest
 restOf Spell m rest = spelledLine m rest
 
 pub by-rest : (p : Program) (line : List ℕ) → restOf p (modeOf line) (drop 2 line) ≡ answerOf p line
-unfolding answerLine spellLine
+unfolding answerLine answerLineWithKeys spellLine
 by-rest Drill line = refl
+by-rest DrillWithKeys line = refl
 by-rest Spell line = refl
 
 -- where the rest begins

@@ -11,13 +11,13 @@ use lib.ListN.{length, take, length-take, length-map}
 use Rattle.rules.specs.Letters.{Letters}
 use Rattle.rules.specs.TakingApart.{verdict}
 use Rattle.rules.specs.TonePlace.{tonePlace}
-use Rattle.rules.specs.TheWord.{mostKeys, mostBytes, letter, wordOf, atFront}
+use Rattle.rules.specs.TheWord.{mostKeys, mostBytes, Typed, letter, wordOf, atFront}
 use Rattle.rules.specs.KeyRoles.{isKey}
 use Rattle.rules.specs.CodePoints.{shown}
 use Rattle.rules.specs.Decision.{keeps, decision, handedBack}
 use Rattle.rules.specs.Refusals.{all, isMode, allowedBefore, outOfRange, refusal}
 use Rattle.rules.specs.WhatComesBack.{typeAll}
-use Rattle.rules.specs.Drill.{decimal, orHyphen, placeColumn, decisionColumn, columns, wordLine, refusedLine, lineOr, keysLine}
+use Rattle.rules.specs.Drill.{decimal, orHyphen, placeColumn, decisionColumn, columns, wordColumns, refusedLine, lineOr, keysLine, placeOrHyphen, letterPlaces, keyColumns}
 use Rattle.rules.specs.declared.Word.{Word}
 use Rattle.rules.specs.declared.Refusal.{Refusal}
 use Rattle.rules.specs.declared.TypeAnswer.the-variants.{AllTyped}
@@ -33,7 +33,7 @@ use Rattle.word.specs.Deciding.{decidedBy}
 use Rattle.show.specs.Filling.{textOf, roomText}
 use Rattle.show.proofs.Texts.{text-of}
 use Rattle.show.proofs.Answers.{in-room}
-use Rattle.lines.specs.Appending.{SmallPlace}
+use Rattle.lines.specs.Appending.{endedBy, SmallPlace}
 
 -- the place of a tone is below the number of letters
 place-small : (w : Letters) (t : ℕ) → length w ≤ mostKeys → (p : Place) → tonePlace w t ≡ p → SmallPlace p
@@ -89,13 +89,22 @@ module _ (w : Word) (e : outOfRange w ≡ false) where
   pub few-typed : w .typed ≤ mostKeys
   few-typed = in-range w (subst (λ (b : Bool). T (not b)) (sym e) tt) .typed
 
-  pub its-line : (text : List ℕ) (v : ℕ) (p : Place) (x : Decision) → text ≡ its-text → v ≡ verdict (wordOf w .state .letters) (w .tone)
+  pub its-columns : (text : List ℕ) (v : ℕ) (p : Place) (x : Decision) (end : ℕ) → text ≡ its-text → v ≡ verdict (wordOf w .state .letters) (w .tone)
       → p ≡ tonePlace (wordOf w .state .letters) (w .tone) → x ≡ decision (wordOf w)
-      → columns (orHyphen text ∷ orHyphen (handedBack x text (take (w .typed - 0) (w .keys))) ∷ decimal v ∷ decimal (w .tone) ∷ placeColumn p ∷ decisionColumn x ∷ []) ≡ wordLine (wordOf w)
-  its-line text v p x et ev ep ex =
+      → endedBy end (orHyphen text ∷ orHyphen (handedBack x text (take (w .typed - 0) (w .keys))) ∷ decimal v ∷ decimal (w .tone) ∷ placeColumn p ∷ decisionColumn x ∷ []) ≡ endedBy end (wordColumns (wordOf w))
+  its-columns text v p x end et ev ep ex =
       let m : w .typed - 0 ≡ w .typed = omega arith in
       let k = ap (λ (n : ℕ). take n (w .keys)) m in
-      λ i. columns (orHyphen (et i) ∷ orHyphen (handedBack (ex i) (et i) (k i)) ∷ decimal (ev i) ∷ decimal (w .tone) ∷ placeColumn (ep i) ∷ decisionColumn (ex i) ∷ [])
+      λ i. endedBy end (orHyphen (et i) ∷ orHyphen (handedBack (ex i) (et i) (k i)) ∷ decimal (ev i) ∷ decimal (w .tone) ∷ placeColumn (ep i) ∷ decisionColumn (ex i) ∷ [])
+
+  its-appended : take (w .count - 0) (w .«appended_by») ≡ wordOf w .places .appendedBy
+  its-appended = ap (λ (n : ℕ). take n (w .«appended_by»)) its-count
+
+  its-shaped : take (w .count - 0) (w .«shaped_by») ≡ wordOf w .places .shapedBy
+  its-shaped = ap (λ (n : ℕ). take n (w .«shaped_by»)) its-count
+
+  pub its-key-columns : columns (orHyphen (letterPlaces (take (w .count - 0) (w .«appended_by»)) (take (w .count - 0) (w .«shaped_by»))) ∷ placeOrHyphen (w .«toned_by») ∷ []) ≡ columns (keyColumns (wordOf w))
+  its-key-columns = λ i. columns (orHyphen (letterPlaces (its-appended i) (its-shaped i)) ∷ placeOrHyphen (w .«toned_by») ∷ [])
 
 -- keys that are typed, and keys that are refused
 few-allowed : (m : ℕ) (ks : List ℕ) → allowedBefore m ks ≤ length ks
@@ -107,8 +116,8 @@ few-allowed m (k ∷ ks) = go (isKey m k) (few-allowed m ks)
     go false h = omega arith
 
 module _ (m : ℕ) (ks : List ℕ) where
-  pub refused-keys : (x : Refusal) → typeAll m ks .answer ≡ TypeRefused x → refusedLine x ≡ keysLine m ks
-  refused-keys x e = sym (ap (λ (o : Option Refusal). lineOr o m ks) (refused-as m ks x e))
+  pub refused-keys : (ofWord : Typed → List ℕ) (x : Refusal) → typeAll m ks .answer ≡ TypeRefused x → refusedLine x ≡ keysLine ofWord m ks
+  refused-keys ofWord x e = sym (ap (λ (o : Option Refusal). lineOr ofWord o m ks) (refused-as m ks x e))
 
   pub small-value : (x : Refusal) → typeAll m ks .answer ≡ TypeRefused x → x .value < 256
   unfolding refusal
@@ -124,5 +133,5 @@ module _ (m : ℕ) (ks : List ℕ) where
           omega (arith, few-allowed m ks, ltb-false mostKeys (0 + length ks) h)
       go false false h false f = let z : _≡_ {A = ℕ} 0 1 = cc in absurd (omega arith)
 
-  pub typed-keys : typeAll m ks .answer ≡ AllTyped → wordLine (wordOf (typeAll m ks .word)) ≡ keysLine m ks
-  typed-keys a = ap wordLine (typed-word m ks a) ∙ sym (ap (λ (o : Option Refusal). lineOr o m ks) (not-refused m ks a))
+  pub typed-keys : (ofWord : Typed → List ℕ) → typeAll m ks .answer ≡ AllTyped → ofWord (wordOf (typeAll m ks .word)) ≡ keysLine ofWord m ks
+  typed-keys ofWord a = ap ofWord (typed-word m ks a) ∙ sym (ap (λ (o : Option Refusal). lineOr ofWord o m ks) (not-refused m ks a))

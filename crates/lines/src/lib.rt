@@ -1,16 +1,16 @@
-// One line of a program to its answer line: the drill's, or the speller's.
+// One line of a program to its answer line: the drill's, with the places of the keys or without, or the speller's.
 ghost use mathlib.Core.Path.{_≡_};
 ghost use mathlib.Core.Bool.{false};
 ghost use mathlib.Core.List.{[], _∷_, _++_};
-ghost use Prim.Native.Nat.{_+_, _≤_, _<_};
+ghost use Prim.Native.Nat.{_+_, _*_, _≤_, _<_};
 ghost use lib.ListN.{length, drop};
 ghost use Rattle.rules.specs.TheWord.{mostKeys, mostBytes, wordOf};
 ghost use Rattle.rules.specs.Decision.{handedBack};
 ghost use Rattle.rules.specs.Refusals.{outOfRange};
-ghost use Rattle.rules.specs.Drill.{decimal, orHyphen, placeColumn, decisionColumn, columns, wordLine, refusedLine, keysLine, modeOf};
+ghost use Rattle.rules.specs.Drill.{decimal, orHyphen, placeColumn, decisionColumn, columns, wordColumns, refusedLine, keysLine, modeOf, placeOrHyphen, letterPlace, letterPlaces, keyColumns};
 ghost use Rattle.rules.specs.SpellProgram.{spelledLine};
-ghost use Rattle.lines.specs.Appending.{Appends, mostInLine, SmallPlace};
-ghost use Rattle.lines.specs.Programs.{answerOf, lineAnswer};
+ghost use Rattle.lines.specs.Appending.{Appends, endedBy, mostInLine, SmallPlace};
+ghost use Rattle.lines.specs.Programs.{wordLineOf, answerOf, lineAnswer};
 use rules::Decision;
 use rules::Place;
 use rules::Refusal;
@@ -25,6 +25,7 @@ const NEWLINE: u8 = b'\n';
 // The programs that answer lines.
 pub enum Program {
     Drill,
+    DrillWithKeys,
     Spell,
 }
 
@@ -120,23 +121,24 @@ fn six_columns(
     tone: u8,
     place: Place,
     decision: Decision,
+    end: u8,
 ) -> usize
     requires { ⌜ (mostInLine ≤ length (now text)) × (length (now shown) ≤ mostBytes) × (length (now keys) ≤ mostKeys) × SmallPlace place ⌝ }
     ensures { λ r. ⌜ Appends (now (text .entry)) (now (text .exit)) 0 r
-        (columns (orHyphen (now (shown .entry)) ∷ orHyphen (handedBack decision (now (shown .entry)) (now (keys .entry))) ∷ decimal verdict ∷ decimal tone ∷ placeColumn place ∷ decisionColumn decision ∷ [])) ⌝ }
+        (endedBy end (orHyphen (now (shown .entry)) ∷ orHyphen (handedBack decision (now (shown .entry)) (now (keys .entry))) ∷ decimal verdict ∷ decimal tone ∷ placeColumn place ∷ decisionColumn decision ∷ [])) ⌝ }
 {
     let a = text_column(text, 0, shown, SPACE);
     let b = commit_column(text, a, decision, shown, keys, SPACE);
     let c = number_column(text, b, verdict, SPACE);
     let d = number_column(text, c, tone, SPACE);
     let e = place_column(text, d, place, SPACE);
-    byte_column(text, e, letter(decision), NEWLINE)
+    byte_column(text, e, letter(decision), end)
 }
 
-// The line of a word in range: its letters are taken out of the record once, and not asked about again.
-fn word_line(text: &mut [u8], w: Word) -> usize
+// The six columns of a word in range: its letters are taken out of the record once, and not asked about again.
+fn word_columns(text: &mut [u8], w: Word, end: u8) -> usize
     requires { ⌜ (mostInLine ≤ length (now text)) × (outOfRange w ≡ false) ⌝ }
-    ensures { λ r. ⌜ Appends (now (text .entry)) (now (text .exit)) 0 r (wordLine (wordOf w)) ⌝ }
+    ensures { λ r. ⌜ Appends (now (text .entry)) (now (text .exit)) 0 r (endedBy end (wordColumns (wordOf w))) ⌝ }
 {
     let all = w.letters;
     let count = w.count as usize;
@@ -157,7 +159,70 @@ fn word_line(text: &mut [u8], w: Word) -> usize
         w.tone,
         place,
         decision,
+        end,
     )
+}
+
+// The place of a key, or a hyphen for no key.
+fn key_column(text: &mut [u8], at: usize, key: u8, end: u8) -> usize
+    requires { ⌜ at + 2 < length (now text) ⌝ }
+    ensures { λ r. ⌜ Appends (now (text .entry)) (now (text .exit)) at r (placeOrHyphen key ++ (end ∷ [])) ⌝ }
+{
+    if key == Word::NO_KEY {
+        return byte_column(text, at, b'-', end);
+    }
+    number_column(text, at, key, end)
+}
+
+// The places of one letter's keys.
+fn letter_column(text: &mut [u8], at: usize, appended: u8, shaped: u8, end: u8) -> usize
+    requires { ⌜ at + 5 < length (now text) ⌝ }
+    ensures { λ r. ⌜ Appends (now (text .entry)) (now (text .exit)) at r (letterPlace appended shaped ++ (end ∷ [])) ⌝ }
+{
+    let next = key_column(text, at, appended, b'/');
+    key_column(text, next, shaped, end)
+}
+
+// Those of all letters, or a hyphen where there is none. Behind the last stands no comma, so it is written behind the loop.
+fn letters_column(text: &mut [u8], at: usize, appended: &[u8], shaped: &[u8], end: u8) -> usize
+    requires { ⌜ (at + 6 * length (now appended) + 1 < length (now text)) × (length (now shaped) ≡ length (now appended)) ⌝ }
+    ensures { λ r. ⌜ Appends (now (text .entry)) (now (text .exit)) at r (orHyphen (letterPlaces (now (appended .entry)) (now (shaped .entry))) ++ (end ∷ [])) ⌝ }
+{
+    if appended.len() == 0 {
+        return byte_column(text, at, b'-', end);
+    }
+    let last = appended.len() - 1;
+    let mut next = at;
+    let mut i = 0;
+    while i < last {
+        next = letter_column(text, next, appended[i], shaped[i], b',');
+        i += 1;
+    }
+    letter_column(text, next, appended[last], shaped[last], end)
+}
+
+// The two columns of a word's key places.
+fn key_columns(text: &mut [u8], at: usize, w: Word) -> usize
+    requires { ⌜ (at + 6 * mostKeys + 5 ≤ length (now text)) × (outOfRange w ≡ false) ⌝ }
+    ensures { λ r. ⌜ Appends (now (text .entry)) (now (text .exit)) at r (columns (keyColumns (wordOf w))) ⌝ }
+{
+    let appended = w.appended_by;
+    let shaped = w.shaped_by;
+    let count = w.count as usize;
+    let next = letters_column(text, at, &appended[0..count], &shaped[0..count], SPACE);
+    key_column(text, next, w.toned_by, NEWLINE)
+}
+
+// The line of a word in range, with the places of its keys or without.
+fn word_line(text: &mut [u8], w: Word, keyed: bool) -> usize
+    requires { ⌜ (mostInLine ≤ length (now text)) × (outOfRange w ≡ false) ⌝ }
+    ensures { λ r. ⌜ Appends (now (text .entry)) (now (text .exit)) 0 r (wordLineOf keyed (wordOf w)) ⌝ }
+{
+    if keyed {
+        let next = word_columns(text, w, SPACE);
+        return key_columns(text, next, w);
+    }
+    word_columns(text, w, NEWLINE)
 }
 
 // The line of a refusal: `!`, its number and the number returned.
@@ -170,16 +235,16 @@ fn refused_line(text: &mut [u8], r: Refusal) -> usize
     number_column(text, b, r.value as u8, NEWLINE)
 }
 
-fn keys_line(text: &mut [u8], mode: u8, keys: &[u8]) -> usize
+fn keys_line(text: &mut [u8], mode: u8, keys: &[u8], keyed: bool) -> usize
     requires { ⌜ mostInLine ≤ length (now text) ⌝ }
-    ensures { λ r. ⌜ Appends (now (text .entry)) (now (text .exit)) 0 r (keysLine mode (now (keys .entry))) ⌝ }
+    ensures { λ r. ⌜ Appends (now (text .entry)) (now (text .exit)) 0 r (keysLine (wordLineOf keyed) mode (now (keys .entry))) ⌝ }
 {
     let all = word::type_all(mode, keys);
     let answer = all.answer;
     if let TypeAnswer::Refused(refusal) = answer {
         return refused_line(text, refusal);
     }
-    word_line(text, all.word)
+    word_line(text, all.word, keyed)
 }
 
 // The key list of a shown syllable, in the front of the text itself, or the line of its refusal. The text has room for any key list.
@@ -234,7 +299,8 @@ fn line_text(program: Program, text: &mut [u8], line: &[u8]) -> usize
     let from = behind_start(line);
     let rest = &line[from..];
     match program {
-        Program::Drill => keys_line(text, mode, rest),
+        Program::Drill => keys_line(text, mode, rest, false),
+        Program::DrillWithKeys => keys_line(text, mode, rest, true),
         Program::Spell => spelled_line(text, mode, rest),
     }
 }
@@ -243,7 +309,7 @@ fn line_text(program: Program, text: &mut [u8], line: &[u8]) -> usize
 pub fn answer_line(program: Program, line: &[u8], out: &mut [u8]) -> WriteAnswer
     ensures { λ r. ⌜ (r ≡ lineAnswer program (now (line .entry)) (now (out .entry)) .answer) × (now (out .exit) ≡ lineAnswer program (now (line .entry)) (now (out .entry)) .output) ⌝ }
 {
-    let mut text = [0; 256];
+    let mut text = [0; 512];
     let n = line_text(program, &mut text, line);
     output::write(&text[0..n], out)
 }

@@ -52,7 +52,7 @@ module _ (w : Word) (k : ℕ) (out : List ℕ) (s : Step) (e : s ≡ step w k) w
     did-so =
         let (fine, long) = step-in-range w k whole (was-in-range (outOfRange w) refl) in
         let range = ap (λ (x : Step). outOfRange (x .word)) e ∙ is-false (outOfRange (step w k .word)) fine in
-        let t = shown-so (s .word) out range in
+        let t = shown-so (s .word) out refl range in
         let p = by-step (Stepped o) d in
         record {
           range = range;

@@ -3,7 +3,7 @@ use mathlib.Core.Path.{_≡_, sym, ap, subst, _∙_}
 use Prim.Native.Nat.{ℕ}
 use native.Mathlib.Omega.{arith}
 use lib.Dec.{T}
-use Rattle.rules.specs.TheWord.{Typed, wordOf, stateOf, outcomeOf, isAppended}
+use Rattle.rules.specs.TheWord.{wordOf, stateOf, outcomeOf, isAppended}
 use Rattle.rules.specs.KeyRoles.{letterOfKey, keyDoes, type}
 use Rattle.rules.specs.WhatComesBack.{step}
 use Rattle.rules.specs.Appending.{OneCase}
@@ -13,7 +13,7 @@ use Rattle.rules.specs.declared.StepAnswer.the-variants.{Did}
 use Rattle.rules.specs.declared.Step.{Step}
 use Rattle.rules.proofs.Range.{in-range}
 use Rattle.rules.proofs.StaysInRange.{next, state-fine, taken-by}
-use Rattle.rules.proofs.Records.{word-held, accepted}
+use Rattle.rules.proofs.Records.{state-held, accepted}
 use Rattle.rules.proofs.Appends.{appended-key}
 use Rattle.promises.specs.Appending.{AppendedKey}
 use Rattle.promises.proofs.AsDefined.{stepped}
@@ -32,5 +32,5 @@ appending w k r a e =
     let does = accepted w k (t .range) (t .room) (t .key) in
     let fine = next (wordOf w) k (t .key) (state-fine w (in-range w (t .range))) .fine .letters in
     let after : stateOf (keyDoes (wordOf w) k) ≡ wordOf (r .word) .state =
-    sym (ap (λ (x : Step). wordOf (x .word) .state) (s ∙ does) ∙ ap (λ (z : Typed). z .state) (word-held w (type (wordOf w) k) fine)) in
+    sym (ap (λ (x : Step). wordOf (x .word) .state) (s ∙ does) ∙ state-held w (type (wordOf w) k) fine) in
     subst (OneCase (wordOf w .state) (letterOfKey k)) after (appended-key (wordOf w) k (is-appended (outcomeOf (keyDoes (wordOf w) k)) (sym (ap (λ (x : Step). x .answer) does) ∙ answer)))

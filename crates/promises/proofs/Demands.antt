@@ -8,12 +8,12 @@ use lib.ListN.{length, drop}
 use denote.Ref.{ptr}
 use Rattle.rules.specs.Speller.{read}
 use Rattle.rules.specs.CodePoints.{shown}
-use Rattle.rules.specs.TheWord.{wordOf, atFront}
+use Rattle.rules.specs.TheWord.{Typed, wordOf, atFront}
 use Rattle.rules.specs.Decision.{decision, handedBack}
 use Rattle.rules.specs.Refusals.{Call, table, refusal, FirstOf, NoneHolds}
 use Rattle.rules.specs.WhatComesBack.{startCall, startOr, start, stepCall, stepOr, step, typed, typeCall, typeOr, typeAll, writeOr, showCall, show, wordCall, placeOr, placeAnswer, verdictOr, verdictAnswer, decisionOr, decisionAnswer, commitCall, commitOr, commit, grantedOr, commitAnswer, keysOf, spellCall, spell, roomCall}
 use Rattle.rules.specs.AnswersInNumbers.{Says, answered, refusing, startSays, stepSays, typeSays, writeSays, placeSays, verdictSays, decisionSays, commitSays}
-use Rattle.rules.specs.Drill.{modeOf, lineOr, answerLine}
+use Rattle.rules.specs.Drill.{wordLine, lineOr, keysLine, modeOf, lineBy, answerLine, wordLineWithKeys, answerLineWithKeys}
 use Rattle.rules.specs.SpellProgram.{textCall, spelledOr, spellLine}
 use Rattle.rules.specs.declared.Word.{Word}
 use Rattle.rules.specs.declared.Refusal.{Refusal}
@@ -75,9 +75,16 @@ module _ {m : ℕ} {ks text part : List ℕ} (a : CommitAllows m ks text part) w
       )
 
 -- a line's answer, by the table
-drill-line : (line : List ℕ) (o : Option Refusal) → refusal (typeCall (modeOf line) (drop 2 line)) ≡ o → answerLine line ≡ lineOr o (modeOf line) (drop 2 line)
+of-keys : (ofWord : Typed → List ℕ) (line : List ℕ) (o : Option Refusal) → refusal (typeCall (modeOf line) (drop 2 line)) ≡ o → lineBy (keysLine ofWord) line ≡ lineOr ofWord o (modeOf line) (drop 2 line)
+of-keys ofWord line o e = ap (λ (p : Option Refusal). lineOr ofWord p (modeOf line) (drop 2 line)) e
+
+drill-line : (line : List ℕ) (o : Option Refusal) → refusal (typeCall (modeOf line) (drop 2 line)) ≡ o → answerLine line ≡ lineOr wordLine o (modeOf line) (drop 2 line)
 unfolding answerLine
-drill-line line o e = ap (λ (p : Option Refusal). lineOr p (modeOf line) (drop 2 line)) e
+drill-line = of-keys wordLine
+
+drill-with-keys-line : (line : List ℕ) (o : Option Refusal) → refusal (typeCall (modeOf line) (drop 2 line)) ≡ o → answerLineWithKeys line ≡ lineOr wordLineWithKeys o (modeOf line) (drop 2 line)
+unfolding answerLineWithKeys
+drill-with-keys-line = of-keys wordLineWithKeys
 
 spell-line : (line : List ℕ) (o : Option Refusal) → refusal (textCall (modeOf line) (drop 2 line)) ≡ o → spellLine line ≡ spelledOr o (modeOf line) (drop 2 line)
 unfolding spellLine
@@ -108,9 +115,12 @@ demand-1 =
       not-committing = λ m ks text part x a f. let e = refusal-given (commitCall m ks text) x .1 f in (handed a (some x) e, begins a (some x) e);
       drill-answers = λ line n. drill-line line none (refusal-none (typeCall (modeOf line) (drop 2 line)) .1 n);
       drill-refuses = λ line x f. drill-line line (some x) (refusal-given (typeCall (modeOf line) (drop 2 line)) x .1 f);
+      drill-with-keys-answers = λ line n. drill-with-keys-line line none (refusal-none (typeCall (modeOf line) (drop 2 line)) .1 n);
+      drill-with-keys-refuses = λ line x f. drill-with-keys-line line (some x) (refusal-given (typeCall (modeOf line) (drop 2 line)) x .1 f);
       spell-answers = λ line n. spell-line line none (refusal-none (textCall (modeOf line) (drop 2 line)) .1 n);
       spell-refuses = λ line x f. spell-line line (some x) (refusal-given (textCall (modeOf line) (drop 2 line)) x .1 f);
       drilling = λ line before after r a. exactly-written (roomCall (answerLine line) before) (answerLine line) before after r (line-answer a) (line-output a);
+      drilling-with-keys = λ line before after r a. exactly-written (roomCall (answerLineWithKeys line) before) (answerLineWithKeys line) before after r (line-answer a) (line-output a);
       spelling-lines = λ line before after r a. exactly-written (roomCall (spellLine line) before) (spellLine line) before after r (line-answer a) (line-output a);
       in-session = λ before after k r a.
           exactly {R = Says × Session} (stepCall (before .word) k) (stepSays r, after) (λ o. (stepSays (stepOr o (before .word) k .answer), record { word = stepOr o (before .word) k .word }))

@@ -28,6 +28,8 @@ use Rattle.rules.proofs.Tests.{is-true}
 use Rattle.rules.proofs.Records.{accepted as not-refused}
 use Rattle.rules.proofs.Typing.{kept-mode, kept-keys, stepping, typing-is-stepping}
 use Rattle.rules.proofs.NotRefused.{finds, judges, decides, typed-in-range, typed-word}
+use Rattle.rules.proofs.KeyPlaces.{typed-told}
+use Rattle.rules.specs.KeyPlaces.{PlacesTold}
 use Rattle.promises.specs.Contracts.{StepAllows}
 use Rattle.rules.specs.AnswersInNumbers.{answered, outcomeNumbers, startSays, stepSays, typeSays, writeSays, placeSays, verdictSays, decisionSays}
 use Rattle.promises.specs.EachKey.{Stepped, no-key, key-and-more, AcceptedKeys, EveryPrefix, AsRuled, AfterEachKey, AfterTheList, AtEachKey}
@@ -82,6 +84,7 @@ module _ (m : ℕ) (ks : List ℕ) (ok : AcceptedKeys m ks) where
         text = λ {before} room a.
             let f = writes-state v range (typed m ks .state) state-is before room in
             (ap writeSays (shown-answer a ∙ ap (λ (x : Written). x .answer) f), shown-output a ∙ ap (λ (x : Written). x .output) f);
+        places = subst PlacesTold (sym as-typed) (typed-told m ks accepted);
         place = λ a. ap placeSays (placed a ∙ finds v range ∙ ap (λ (z : State). Found (tonePlace (z .letters) (z .tone))) state-is);
         judgement = λ a. ap verdictSays (judged a ∙ judges v range ∙ ap (λ (z : State). Judged (verdict (z .letters) (z .tone))) state-is);
         keep-or-restore = λ a. ap decisionSays (decided a ∙ decides v range ∙ ap (λ (z : Typed). Decided (decision z)) word-is);

@@ -19,7 +19,7 @@ use Rattle.rules.specs.declared.Step.{Step}
 use Rattle.rules.specs.declared.StepAnswer.{StepAnswer}
 use Rattle.rules.proofs.Tests.{is-false}
 use Rattle.rules.proofs.Range.{in-range}
-use Rattle.rules.proofs.Records.{word-held}
+use Rattle.rules.proofs.Records.{state-held}
 use Rattle.rules.proofs.Refused.{refusal-none}
 use Rattle.rules.proofs.StaysInRange.{Whole, state-fine, next, taken, step-in-range}
 use Rattle.press.specs.StepAndShow.{Shown, showOr, pressedOr, stepAndShow}
@@ -97,7 +97,7 @@ module _ (w : Word) (k : ℕ) (out : List ℕ) where
           let s = stepped none e in
           let new-range : outOfRange (holding w after) ≡ false = ap (λ (x : Step). outOfRange (x .word)) (sym s) ∙ is-false (outOfRange (step w k .word)) (step-in-range w k whole (a .range) .0) in
           let fine = next (wordOf w) k (a .key) (state-fine w (in-range w (a .range))) .fine .letters in
-          let state = ap (λ (z : Typed). z .state) (word-held w after fine) in
+          let state = state-held w after fine in
           by-step (Rules.stepOr none w k) s ∙
           ap (λ (x : Written). record { result = showOr (x .answer) (outcomeOf (keyDoes (wordOf w) k)) w (holding w after); output = x .output }) (shows (holding w after) new-range state) ∙
           put no-room ∙ sym (ap pressedBy (press-room e))

@@ -1,14 +1,18 @@
 -- Demand 3, first half: `FirstHalf` of specs/TwoOrders.antt, by the law on records and the contracts.
-use mathlib.Core.Path.{_≡_, refl, sym, ap, _∙_}
+use mathlib.Core.Path.{_≡_, refl, sym, ap, subst, _∙_}
 use mathlib.Core.Bool.{false}
-use mathlib.Core.List.{List}
-use Prim.Native.Nat.{ℕ}
+use mathlib.Core.List.{List, map}
+use Prim.Native.Nat.{ℕ, _≤_}
+use native.Mathlib.Omega.{arith}
 use lib.Dec.{T}
+use lib.ListN.{length, take, length-map}
+use lib.Seq.{length-take-le}
 use Rattle.rules.specs.TheWord.{wordOf}
 use Rattle.rules.specs.KeyRoles.{role}
 use Rattle.rules.specs.Decision.{keeps, decision}
 use Rattle.rules.specs.Refusals.{outOfRange}
 use Rattle.rules.specs.WhatComesBack.{Written, step}
+use Rattle.rules.specs.KeyPlaces.{exchanged, withExchanged}
 use Rattle.rules.specs.declared.Word.{Word}
 use Rattle.rules.specs.declared.Role.{Role}
 use Rattle.rules.specs.declared.Role.the-variants.{ToneRole, ShapeRole, StrokeRole, NoRole}
@@ -16,12 +20,13 @@ use Rattle.rules.specs.declared.Outcome.the-variants.{Acted}
 use Rattle.rules.specs.declared.Step.{Step}
 use Rattle.rules.proofs.Tests.{is-false}
 use Rattle.rules.proofs.Commute.{Differ}
-use Rattle.rules.proofs.StaysInRange.{Whole, step-in-range}
+use Rattle.rules.proofs.Range.{in-range}
+use Rattle.rules.proofs.StaysInRange.{Whole, read-front, step-in-range}
 use Rattle.rules.proofs.NotRefused.{shows, finds, judges, decides}
 use Rattle.rules.proofs.RecordOrders.{record-orders}
 use Rattle.rules.specs.AnswersInNumbers.{stepSays, writeSays, placeSays, verdictSays, decisionSays}
 use Rattle.promises.proofs.FromNumbers.{did-as}
-use Rattle.promises.specs.TwoOrders.{differ, OpenWithRoom, withKeys, FirstHalf}
+use Rattle.promises.specs.TwoOrders.{differ, OpenWithRoom, FirstHalf}
 use Rattle.promises.proofs.AsDefined.{stepped, shown-answer, shown-output, placed, judged, decided}
 use Rattle.promises.proofs.Alike.{same-text, same-place, same-verdict, same-decision}
 
@@ -44,17 +49,28 @@ families NoRole StrokeRole d = absurd d
 families NoRole NoRole d = absurd d
 
 whole : {w : Word} → OpenWithRoom w → Whole w
-whole o = record { letters = o .letters; keys = o .keys }
+whole o = record { letters = o .letters; by = o .by; shaped-by = o .shaped-by; keys = o .keys }
 
 in-range-after : (w : Word) → OpenWithRoom w → (x y : ℕ) → outOfRange (step (step w x .word) y .word) ≡ false
 in-range-after w o x y =
     let (r, v) = step-in-range w x (whole o) (o .range) in
     is-false (outOfRange (step (step w x .word) y .word)) (step-in-range (step w x .word) y v r .0)
 
--- the kept keys have no part in the decision
-decided-alike : (z : Word) (ks : List ℕ) → decision (wordOf (withKeys z ks)) ≡ decision (wordOf z)
+places-enough : (w : Word) → OpenWithRoom w → (x y : ℕ) → step (step w x .word) y .word .count ≤ length (step (step w x .word) y .word .«shaped_by»)
+places-enough w o x y =
+    let (r, v) = step-in-range w x (whole o) (o .range) in
+    let (q, u) = step-in-range (step w x .word) y v r in
+    omega (arith, u .shaped-by, in-range (step (step w x .word) y .word) q .count)
+
+-- the kept keys and the places of keys have no part in the decision
+decided-alike : (n : ℕ) (z : Word) (ks : List ℕ) → decision (wordOf (withExchanged n z ks)) ≡ decision (wordOf z)
 unfolding keeps
-decided-alike z ks = refl
+decided-alike n z ks = refl
+
+-- the places of the letters in use, exchanged
+shaped-alike : (n : ℕ) (z : Word) (ks : List ℕ) → z .count ≤ length (z .«shaped_by») → take (z .count) (withExchanged n z ks .«shaped_by») ≡ map (exchanged n) (take (z .count) (z .«shaped_by»))
+shaped-alike n z ks h =
+    read-front (map (exchanged n) (take (z .count) (z .«shaped_by»))) (z .«shaped_by») (z .count) (length-map (take (z .count) (z .«shaped_by»)) (exchanged n) ∙ length-take-le (z .count) (z .«shaped_by») h)
 
 pub first-half : FirstHalf
 first-half w k m a b wk wm km mk o differing k-typed k-acted m-typed m-acted m-after k-after =
@@ -65,7 +81,8 @@ first-half w k m a b wk wm km mk o differing k-typed k-acted m-typed m-acted m-a
     let same = record-orders w (whole o) (o .range) (o .room) k m (o .open-word) (families (role (w .mode) k) (role (w .mode) m) differing)
     (sym (ap (λ (s : Step). s .answer) e) ∙ did-as (wk .answer) (Acted a) k-acted) (sym (ap (λ (s : Step). s .answer) f) ∙ did-as (wm .answer) (Acted b) m-acted) in
     let keys = ap (λ (s : Step). s .word .keys) x ∙ ap (λ (z : Word). z .keys) (same .equal) in
-    let words : km .word ≡ withKeys (mk .word) (km .word .keys) = ap (λ (s : Step). s .word) x ∙ same .equal ∙ (λ i. withKeys (sym y i .word) (sym keys i)) in
+    let words : km .word ≡ withExchanged (w .typed) (mk .word) (km .word .keys) = ap (λ (s : Step). s .word) x ∙ same .equal ∙ (λ i. withExchanged (w .typed) (sym y i .word) (sym keys i)) in
+    let few : mk .word .count ≤ length (mk .word .«shaped_by») = subst (λ (s : Step). s .word .count ≤ length (s .word .«shaped_by»)) (sym y) (places-enough w o m k) in
     let km-range : outOfRange (km .word) ≡ false = ap (λ (s : Step). outOfRange (s .word)) x ∙ in-range-after w o k m in
     let mk-range : outOfRange (mk .word) ≡ false = ap (λ (s : Step). outOfRange (s .word)) y ∙ in-range-after w o m k in
     let states = ap (λ (z : Word). wordOf z .state) words in
@@ -73,6 +90,9 @@ first-half w k m a b wk wm km mk o differing k-typed k-acted m-typed m-acted m-a
       m-acts = ap stepSays (ap (λ (s : Step). s .answer) x ∙ same .second-acts);
       k-acts = ap stepSays (ap (λ (s : Step). s .answer) y ∙ same .first-acts);
       words = words;
+      appending-places = ap (λ (z : Word). z .«appended_by») words;
+      shaping-places = ap (λ (z : Word). take (z .count) (z .«shaped_by»)) words ∙ shaped-alike (w .typed) (mk .word) (km .word .keys) few;
+      tone-place = ap (λ (z : Word). z .«toned_by») words;
       k-then-m = keys;
       m-then-k = ap (λ (s : Step). s .word .keys) y ∙ same .keys;
       text = λ p q. (
@@ -87,6 +107,6 @@ first-half w k m a b wk wm km mk o differing k-typed k-acted m-typed m-acted m-a
       decision = λ p q. (
         _,
         ap decisionSays (decided p ∙ decides (km .word) km-range),
-        ap decisionSays (decided q ∙ sym (same-decision (km .word) (mk .word) km-range mk-range states (ap (λ (z : Word). decision (wordOf z)) words ∙ decided-alike (mk .word) (km .word .keys))) ∙ decides (km .word) km-range),
+        ap decisionSays (decided q ∙ sym (same-decision (km .word) (mk .word) km-range mk-range states (ap (λ (z : Word). decision (wordOf z)) words ∙ decided-alike (w .typed) (mk .word) (km .word .keys))) ∙ decides (km .word) km-range),
       );
     }

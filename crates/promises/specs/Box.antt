@@ -1,4 +1,4 @@
--- Demand 1 for the calls of the box, of whatever their contracts allow: the number returned, the value and the lent bytes. How a record lies in 104 bytes is said in layout/specs/Places.antt, how the values of an answer are one number in felcantuzza/specs/Calls.antt.
+-- Demand 1 for the calls of the box, of whatever their contracts allow: the number returned, the value and the lent bytes. How a record lies in 169 bytes is said in layout/specs/Places.antt, how the values of an answer are one number in felcantuzza/specs/Calls.antt.
 use mathlib.Core.Path.{_≡_}
 use mathlib.Core.Bool.{Bool, true, not}
 use mathlib.Core.List.{List, [], _∷_}

@@ -16,7 +16,7 @@ use Rattle.rules.specs.Speller.{read}
 use Rattle.rules.specs.Refusals.{Call, table, FirstOf, NoneHolds}
 use Rattle.rules.specs.WhatComesBack.{startCall, stepCall, typed, typeCall, showCall, wordCall, commitCall, keysOf, spellCall, roomCall}
 use Rattle.rules.specs.AnswersInNumbers.{Says, answered, refusing, outcomeNumbers, placeNumbers, decisionNumber, startSays, stepSays, typeSays, writeSays, placeSays, verdictSays, decisionSays, commitSays}
-use Rattle.rules.specs.Drill.{newline, modeOf, wordLine, refusedLine, answerLine}
+use Rattle.rules.specs.Drill.{newline, modeOf, wordLine, refusedLine, answerLine, wordLineWithKeys, answerLineWithKeys}
 use Rattle.rules.specs.SpellProgram.{textCall, spellLine}
 use Rattle.rules.specs.declared.Word.{Word}
 use Rattle.rules.specs.declared.Refusal.{Refusal}
@@ -31,7 +31,7 @@ use Rattle.rules.specs.declared.DecisionAnswer.{DecisionAnswer}
 use Rattle.rules.specs.declared.CommitAnswer.{CommitAnswer}
 use Rattle.rules.specs.declared.Decision.the-variants.{Keep, Restore}
 use Rattle.lines.specs.declared.Program.{Program}
-use Rattle.lines.specs.declared.Program.the-variants.{Drill, Spell}
+use Rattle.lines.specs.declared.Program.the-variants.{Drill, DrillWithKeys, Spell}
 use Rattle.session.specs.declared.Session.{Session}
 use Rattle.promises.specs.Contracts.{StartAllows, StepAllows, TypeAllows, ShowAllows, PlaceAllows, VerdictAllows, DecisionAllows, CommitAllows, QuestionAllows, SpellAllows, LineAllows, KeyAllows}
 use Rattle.promises.specs.Exactly.{Exactly}
@@ -68,10 +68,14 @@ pub record Demand1 : Type 0 where
   -- a line: its answer is the word's, or its refusal's, and is written where there is room for it
   pub drill-answers : (line : List ℕ) → NoneHolds (table (typeCall (modeOf line) (drop 2 line))) → answerLine line ≡ wordLine (typed (modeOf line) (drop 2 line))
   pub drill-refuses : (line : List ℕ) (x : Refusal) → FirstOf (table (typeCall (modeOf line) (drop 2 line))) x → answerLine line ≡ refusedLine x
+  pub drill-with-keys-answers : (line : List ℕ) → NoneHolds (table (typeCall (modeOf line) (drop 2 line))) → answerLineWithKeys line ≡ wordLineWithKeys (typed (modeOf line) (drop 2 line))
+  pub drill-with-keys-refuses : (line : List ℕ) (x : Refusal) → FirstOf (table (typeCall (modeOf line) (drop 2 line))) x → answerLineWithKeys line ≡ refusedLine x
   pub spell-answers : (line : List ℕ) → NoneHolds (table (textCall (modeOf line) (drop 2 line))) → spellLine line ≡ keysOf (modeOf line) (read (drop 2 line)) ++ (newline ∷ [])
   pub spell-refuses : (line : List ℕ) (x : Refusal) → FirstOf (table (textCall (modeOf line) (drop 2 line))) x → spellLine line ≡ refusedLine x
   pub drilling : (line before after : List ℕ) (r : WriteAnswer) → LineAllows Drill line before r after →
       Exactly {R = Says × List ℕ} (roomCall (answerLine line) before) (writeSays r, after) (answered (length (answerLine line) ∷ []), atFront (answerLine line) before) (λ x. (refusing x, before))
+  pub drilling-with-keys : (line before after : List ℕ) (r : WriteAnswer) → LineAllows DrillWithKeys line before r after →
+      Exactly {R = Says × List ℕ} (roomCall (answerLineWithKeys line) before) (writeSays r, after) (answered (length (answerLineWithKeys line) ∷ []), atFront (answerLineWithKeys line) before) (λ x. (refusing x, before))
   pub spelling-lines : (line before after : List ℕ) (r : WriteAnswer) → LineAllows Spell line before r after →
       Exactly {R = Says × List ℕ} (roomCall (spellLine line) before) (writeSays r, after) (answered (length (spellLine line) ∷ []), atFront (spellLine line) before) (λ x. (refusing x, before))
   -- the session after a refused key is as it was before

@@ -12,6 +12,7 @@ use Rattle.rules.specs.CodePoints.{shown}
 use Rattle.rules.specs.Decision.{decision}
 use Rattle.rules.specs.Refusals.{all, isMode}
 use Rattle.rules.specs.WhatComesBack.{typed}
+use Rattle.rules.specs.KeyPlaces.{PlacesTold}
 use Rattle.rules.specs.AnswersInNumbers.{answered, outcomeNumbers, placeNumbers, decisionNumber, startSays, stepSays, typeSays, writeSays, placeSays, verdictSays, decisionSays}
 use Rattle.rules.specs.declared.Word.{Word}
 use Rattle.rules.specs.declared.Start.{Start}
@@ -40,9 +41,11 @@ EveryPrefix = (m : ℕ) (ks more : List ℕ) → AcceptedKeys m (ks ++ more) →
 
 -- The word after these keys, and the answers about it, are those of the rules; no answer is a refusal.
 pub record AsRuled (m : ℕ) (ks : List ℕ) (v : Word) : Type 0 where
-  -- letters, tone, open or closed mark, kept keys and counts, in a record whose other places are as in a new word
+  -- letters, tone, open or closed mark, places of keys, kept keys and counts, in a record whose other places are as in a new word
   pub word : v ≡ holding (newWord m) (typed m ks)
   pub holds : wordOf v ≡ typed m ks
+  -- the places of keys tell which key made which letter
+  pub places : PlacesTold v
   -- the text, into an output with room for it; the tone's place, the verdict and the decision
   pub text : {before after : List ℕ} {r : WriteAnswer} → length (shown (typed m ks .state)) ≤ length before → ShowAllows v before r after →
       (writeSays r ≡ answered (length (shown (typed m ks .state)) ∷ [])) × (after ≡ atFront (shown (typed m ks .state)) before)

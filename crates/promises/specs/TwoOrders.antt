@@ -1,7 +1,7 @@
 -- Demand 3, first half, of whatever the contracts allow: an open word with room for two more keys, and two keys of different families that would each act alone, typed in both orders.
 use mathlib.Core.Path.{_≡_}
 use mathlib.Core.Bool.{Bool, true, false, not}
-use mathlib.Core.List.{List, [], _∷_, _++_}
+use mathlib.Core.List.{List, [], _∷_, _++_, map}
 use Prim.Native.Nat.{ℕ, _+_, _≤_}
 use lib.Dec.{T}
 use lib.ListN.{length, take}
@@ -9,6 +9,7 @@ use Rattle.rules.specs.TheWord.{mostKeys, mostBytes, wordOf, atFront}
 use Rattle.rules.specs.KeyRoles.{role}
 use Rattle.rules.specs.CodePoints.{shown}
 use Rattle.rules.specs.Refusals.{outOfRange}
+use Rattle.rules.specs.KeyPlaces.{exchanged, withExchanged}
 use Rattle.rules.specs.AnswersInNumbers.{answered, outcomeNumbers, stepSays, writeSays, placeSays, verdictSays, decisionSays}
 use Rattle.rules.specs.declared.Word.{Word}
 use Rattle.rules.specs.declared.Role.{Role}
@@ -44,26 +45,12 @@ differ NoRole NoRole = false
 -- Any record in range that is open and has at most 30 keys, reachable or not. That its arrays have 32 places is what the language gives of every record.
 pub record OpenWithRoom (w : Word) : Type 0 where
   pub letters : length (w .letters) ≡ mostKeys
+  pub by : length (w .«appended_by») ≡ mostKeys
+  pub shaped-by : length (w .«shaped_by») ≡ mostKeys
   pub keys : length (w .keys) ≡ mostKeys
   pub range : T (not (outOfRange w))
   pub open-word : w .closed ≡ false
   pub room : w .typed + 2 ≤ mostKeys
-
--- a record with other kept keys
-abbrev pub withKeys : Word → List ℕ → Word
-withKeys w ks =
-    record {
-      mode = w .mode;
-      letters = w .letters;
-      count = w .count;
-      tone = w .tone;
-      closed = w .closed;
-      keys = ks;
-      typed = w .typed;
-      acted = w .acted;
-      undone = w .undone;
-      appended = w .appended;
-    }
 
 -- The step's answer is that the key acted, and as what.
 abbrev pub ActsAs : Step → Act → Type 0
@@ -74,9 +61,13 @@ pub record BothOrders (w : Word) (k m : ℕ) (a b : Act) (km mk : Step) : Type 0
   -- both keys act in both orders
   pub m-acts : ActsAs km b
   pub k-acts : ActsAs mk a
-  -- the two words are equal in letters, tone, mark and counts: in everything but the kept keys,
-  pub words : km .word ≡ withKeys (mk .word) (km .word .keys)
-  -- which are the old keys and then the two in the order typed
+  -- the two words are equal in letters, tone, mark and counts: in everything but the kept keys and the places of the two keys, which are exchanged
+  pub words : km .word ≡ withExchanged (w .typed) (mk .word) (km .word .keys)
+  -- so the letters were appended by the same keys, and shapes and tone were set by the same keys, each at its place in its order
+  pub appending-places : km .word .«appended_by» ≡ mk .word .«appended_by»
+  pub shaping-places : take (km .word .count) (km .word .«shaped_by») ≡ map (exchanged (w .typed)) (take (mk .word .count) (mk .word .«shaped_by»))
+  pub tone-place : km .word .«toned_by» ≡ exchanged (w .typed) (mk .word .«toned_by»)
+  -- the kept keys are the old keys and then the two in the order typed
   pub k-then-m : km .word .keys ≡ atFront (take (w .typed) (w .keys) ++ (k ∷ m ∷ [])) (w .keys)
   pub m-then-k : mk .word .keys ≡ atFront (take (w .typed) (w .keys) ++ (m ∷ k ∷ [])) (w .keys)
   -- the same text into any output, written where there is room for any text

@@ -1,5 +1,5 @@
 -- The conditions of refusal 8 in the order in which the code asks them, and one turn of each loop.
-use mathlib.Core.Path.{_≡_, refl, ap, sym, _∙_}
+use mathlib.Core.Path.{_≡_, refl, ap, ap₂, sym, _∙_}
 use mathlib.Core.Bool.{Bool, true, false, not, _&&_, _||_}
 use mathlib.Core.List.{List, [], _∷_}
 use Prim.Native.Nat.{ℕ, _+_, _-_, _<_, _≤_}
@@ -16,7 +16,7 @@ use Rattle.rules.specs.Refusals.{all, any, allLetters, isMode, countsOver, lett
 use Rattle.rules.specs.declared.Word.{Word}
 use Rattle.letters.specs.Writing.{isLetter}
 use Rattle.records.specs.declared.Numbers.{Numbers}
-use Rattle.records.specs.Numbers.{numbersOf, wordIn, numbersWrong}
+use Rattle.records.specs.Numbers.{numbersOf, wordIn, numbersWrong, placesWrong}
 
 -- one turn
 module _ (f : ℕ → Bool) (s : List ℕ) (i : ℕ) where
@@ -45,38 +45,53 @@ all-three mode (n ∷ ns) =
     go true false c false e f = refl
     go false b c d e f = refl
 
--- the conditions in another order
-last-first : (k a b c x : Bool) → (k || (a || (b || (c || x)))) ≡ (x || (k || (a || (b || c))))
-last-first true a b c true = refl
-last-first true a b c false = refl
-last-first false true b c true = refl
-last-first false true b c false = refl
-last-first false false true c true = refl
-last-first false false true c false = refl
-last-first false false false true true = refl
-last-first false false false true false = refl
-last-first false false false false true = refl
-last-first false false false false false = refl
+-- the conditions in another order: those on the numbers first, and those on the places last
+numbers-before : (k a b c x p : Bool) → (k || (a || (b || (c || (x || p))))) ≡ (x || (k || ((a || (b || c)) || p)))
+numbers-before true a b c true p = refl
+numbers-before true a b c false p = refl
+numbers-before false true b c true p = refl
+numbers-before false true b c false p = refl
+numbers-before false false true c true p = refl
+numbers-before false false true c false p = refl
+numbers-before false false false true true p = refl
+numbers-before false false false true false p = refl
+numbers-before false false false false x p = refl
 
-numbers-first : (o f s k a b c x : Bool) → (o || (f || (s || (k || (a || (b || (c || x))))))) ≡ ((o || (f || (s || x))) || (k || (a || (b || c))))
-numbers-first true f s k a b c x = refl
-numbers-first false true s k a b c x = refl
-numbers-first false false true k a b c x = refl
-numbers-first false false false k a b c x = last-first k a b c x
+numbers-first : (o f s k a b c t m p : Bool) → (o || (f || (s || (k || (a || (b || (c || (t || (m || p))))))))) ≡ ((o || (f || (s || (t || m)))) || (k || ((a || (b || c)) || p)))
+numbers-first true f s k a b c t m p = refl
+numbers-first false true s k a b c t m p = refl
+numbers-first false false true k a b c t m p = refl
+numbers-first false false false k a b c true m p = numbers-before k a b c true (m || p)
+numbers-first false false false k a b c false m p = numbers-before k a b c m p
 
 not-three : (a b c : Bool) → (not a || (not b || not c)) ≡ not (a && (b && c))
 not-three true true c = refl
 not-three true false c = refl
 not-three false b c = refl
 
-pub range-is : (w : Word) → outOfRange w ≡ (numbersWrong (w .mode) (numbersOf w) || (not (all (isKey (w .mode)) (take (w .typed) (w .keys))) || not (all (isLetter (w .mode)) (take (w .count) (w .letters)))))
+abbrev placesOf : Word → Bool
+placesOf w = placesWrong (w .typed) (w .count) (w .«appended_by») (w .«shaped_by») (w .«toned_by»)
+
+-- those on the numbers and on the places, which are asked together, before those on keys and letters
+places-first : (n k l p : Bool) → (n || (k || (l || p))) ≡ ((n || p) || (k || l))
+places-first true k l p = refl
+places-first false true l true = refl
+places-first false true l false = refl
+places-first false false true true = refl
+places-first false false true false = refl
+places-first false false false true = refl
+places-first false false false false = refl
+
+range-is : (w : Word) → outOfRange w ≡ ((numbersWrong (w .mode) (numbersOf w) || placesOf w) || (not (all (isKey (w .mode)) (take (w .typed) (w .keys))) || not (all (isLetter (w .mode)) (take (w .count) (w .letters)))))
 unfolding outOfRange
 range-is w =
     let ns = take (w .count) (w .letters) in
-    numbers-first (any (countsOver w)) (ltb (w .typed) (w .count)) (not (eqb (w .acted + w .undone + w .appended) (w .typed))) (not (all (isKey (w .mode)) (take (w .typed) (w .keys))))
-    (not (all (letterAllowed (w .mode)) ns)) (not (allLetters shapeCarried ns)) (not (allLetters noCapitalDigit ns)) (ltb dot (w .tone) || not (isMode (w .mode))) ∙
-    ap (λ (b : Bool). numbersWrong (w .mode) (numbersOf w) || (not (all (isKey (w .mode)) (take (w .typed) (w .keys))) || b))
-    (not-three (all (letterAllowed (w .mode)) ns) (allLetters shapeCarried ns) (allLetters noCapitalDigit ns) ∙ ap not (sym (all-three (w .mode) ns)))
+    let ks = not (all (isKey (w .mode)) (take (w .typed) (w .keys))) in
+    numbers-first (any (countsOver w)) (ltb (w .typed) (w .count)) (not (eqb (w .acted + w .undone + w .appended) (w .typed))) ks
+    (not (all (letterAllowed (w .mode)) ns)) (not (allLetters shapeCarried ns)) (not (allLetters noCapitalDigit ns)) (ltb dot (w .tone)) (not (isMode (w .mode))) (placesOf w) ∙
+    ap (λ (b : Bool). numbersWrong (w .mode) (numbersOf w) || (ks || (b || placesOf w)))
+    (not-three (all (letterAllowed (w .mode)) ns) (allLetters shapeCarried ns) (allLetters noCapitalDigit ns) ∙ ap not (sym (all-three (w .mode) ns))) ∙
+    places-first (numbersWrong (w .mode) (numbersOf w)) ks (not (all (isLetter (w .mode)) ns)) (placesOf w)
 
 or-false : (p q : Bool) → p || q ≡ false → (p ≡ false) × (q ≡ false)
 or-false true q e = let z : _≡_ {A = ℕ} 0 1 = cc in absurd (omega arith)
@@ -107,26 +122,33 @@ module _ (mode : ℕ) (n : Numbers) where
 
   -- counts in order are at most 32
   module _ (e : numbersWrong mode n ≡ false) where
-    in-order : any (countsOver (wordIn mode [] [] n)) ≡ false
-    in-order = or-false (any (countsOver (wordIn mode [] [] n))) _ e .0
+    in-order : any (countsOver (wordIn mode [] [] [] [] 0 n)) ≡ false
+    in-order = or-false (any (countsOver (wordIn mode [] [] [] [] 0 n))) _ e .0
 
-    pub typed-small : n .typed ≤ mostKeys
+    typed-small : n .typed ≤ mostKeys
     typed-small = ltb-false mostKeys (n .typed) (or-false (ltb mostKeys (n .typed)) _ in-order .0)
 
-    pub count-small : n .count ≤ mostKeys
+    count-small : n .count ≤ mostKeys
     count-small = ltb-false mostKeys (n .count) (or-false (ltb mostKeys (n .count)) _ (or-false (ltb mostKeys (n .typed)) _ in-order .1) .0)
 
--- the range by the questions, one after the other: of the numbers, of the kept keys, of the letters
+-- the range by the questions, one after the other: of the numbers and the places of keys, of the kept keys, of the letters
 front : (f : ℕ → Bool) (l : List ℕ) (n : ℕ) {r : Bool} → r ≡ all f (take (n - 0) (drop 0 l)) → all f (take n l) ≡ r
 front f l n e = let z : n ≡ n - 0 = omega arith in ap (λ (m : ℕ). all f (take m l)) z ∙ sym e
 
-module _ (w : Word) where
-  pub by-numbers : numbersWrong (w .mode) (numbersOf w) ≡ true → outOfRange w ≡ true
-  by-numbers e = rw (range-is w, e)
+module _ (w : Word) {a b : Bool} (nw : a ≡ numbersWrong (w .mode) (numbersOf w)) (pw : b ≡ placesWrong (w .typed) (w .count) (w .«appended_by») (w .«shaped_by») (w .«toned_by»)) where
+  by-both : {c : Bool} → (a || b) ≡ c → (numbersWrong (w .mode) (numbersOf w) || placesOf w) ≡ c
+  by-both e = sym (ap₂ _||_ nw pw) ∙ e
 
-  module _ (e : numbersWrong (w .mode) (numbersOf w) ≡ false) {r : Bool} (k : r ≡ all (isKey (w .mode)) (take (w .typed - 0) (drop 0 (w .keys)))) where
-    pub by-keys : r ≡ false → outOfRange w ≡ true
-    by-keys f = rw (range-is w, e, front (isKey (w .mode)) (w .keys) (w .typed) k, f)
+  pub by-numbers : (a || b) ≡ true → outOfRange w ≡ true
+  by-numbers e = rw (range-is w, by-both e)
 
-    pub by-letters : r ≡ true → {q : Bool} → q ≡ all (isLetter (w .mode)) (take (w .count - 0) (drop 0 (w .letters))) → outOfRange w ≡ not q
-    by-letters t l = rw (range-is w, e, front (isKey (w .mode)) (w .keys) (w .typed) k, t, front (isLetter (w .mode)) (w .letters) (w .count) l)
+  module _ (e : (a || b) ≡ false) where
+    pub few : (w .typed ≤ mostKeys) × (w .count ≤ mostKeys)
+    few = let f = sym nw ∙ or-false a b e .0 in (typed-small (w .mode) (numbersOf w) f, count-small (w .mode) (numbersOf w) f)
+
+    module _ {r : Bool} (k : r ≡ all (isKey (w .mode)) (take (w .typed - 0) (drop 0 (w .keys)))) where
+      pub by-keys : r ≡ false → outOfRange w ≡ true
+      by-keys f = rw (range-is w, by-both e, front (isKey (w .mode)) (w .keys) (w .typed) k, f)
+
+      pub by-letters : r ≡ true → {q : Bool} → q ≡ all (isLetter (w .mode)) (take (w .count - 0) (drop 0 (w .letters))) → outOfRange w ≡ not q
+      by-letters t l = rw (range-is w, by-both e, front (isKey (w .mode)) (w .keys) (w .typed) k, t, front (isLetter (w .mode)) (w .letters) (w .count) l)

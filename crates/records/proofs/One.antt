@@ -7,6 +7,10 @@ use Rattle.records.proofs.keys_allowed as keys-allowed
 use Rattle.records.proofs.keys_allowed.Reads as keys-allowed-reads
 use Rattle.records.proofs.letters_allowed as letters-allowed
 use Rattle.records.proofs.letters_allowed.Reads as letters-allowed-reads
+use Rattle.records.proofs.places_wrong as places-wrong
+use Rattle.records.proofs.places_wrong.Reads as places-wrong-reads
+use Rattle.records.proofs.lent_out_of_range as lent-out-of-range
+use Rattle.records.proofs.lent_out_of_range.Reads as lent-out-of-range-reads
 use Rattle.records.proofs.word_in as word-in
 use Rattle.records.proofs.word_in.Reads as word-in-reads
 use Rattle.records.proofs.numbers_of as numbers-of
@@ -21,6 +25,12 @@ keys-allowed-one κs a r r′ e e′ p p′ = p ∙ sym p′
 
 pub letters-allowed-one : (κs : Lfts 1) (a : Args letters-allowed.signature κs) (r r′ : Res letters-allowed.signature κs) (e e′ : AtExit letters-allowed.ended κs) → letters-allowed-reads.Post κs a r e → letters-allowed-reads.Post κs a r′ e′ → r ≡ r′
 letters-allowed-one κs a r r′ e e′ p p′ = p ∙ sym p′
+
+pub places-wrong-one : (κs : Lfts 2) (a : Args places-wrong.signature κs) (r r′ : Res places-wrong.signature κs) (e e′ : AtExit places-wrong.ended κs) → places-wrong-reads.Post κs a r e → places-wrong-reads.Post κs a r′ e′ → r ≡ r′
+places-wrong-one κs a r r′ e e′ p p′ = p ∙ sym p′
+
+pub lent-out-of-range-one : (κs : Lfts 4) (a : Args lent-out-of-range.signature κs) (r r′ : Res lent-out-of-range.signature κs) (e e′ : AtExit lent-out-of-range.ended κs) → lent-out-of-range-reads.Post κs a r e → lent-out-of-range-reads.Post κs a r′ e′ → r ≡ r′
+lent-out-of-range-one κs a r r′ e e′ p p′ = p ∙ sym p′
 
 pub word-in-one : (κs : Lfts 0) (a : Args word-in.signature κs) (r r′ : Res word-in.signature κs) (e e′ : AtExit word-in.ended κs) → word-in-reads.Post κs a r e → word-in-reads.Post κs a r′ e′ → r ≡ r′
 word-in-one κs a r r′ e e′ p p′ = p ∙ sym p′

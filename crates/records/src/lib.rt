@@ -5,7 +5,7 @@ ghost use mathlib.Core.Path.{_≡_};
 ghost use Rattle.rules.specs.KeyRoles.{isKey};
 ghost use Rattle.rules.specs.Refusals.{all, outOfRange};
 ghost use Rattle.letters.specs.Writing.{isLetter};
-ghost use Rattle.records.specs.Numbers.{numbersOf, wordIn, numbersWrong};
+ghost use Rattle.records.specs.Numbers.{numbersOf, wordIn, numbersWrong, keysFor, placesWrong};
 
 // The kept keys are allowed in the mode.
 pub fn keys_allowed(mode: u8, keys: &[u8]) -> bool
@@ -35,40 +35,86 @@ pub fn letters_allowed(mode: u8, letters: &[u16]) -> bool
     true
 }
 
-// A word's numbers: its record without the mode, which never changes, and the arrays.
+// How many keys must be typed for a place to be that of one of them; none for that of no key.
+fn keys_for(place: u8) -> u8
+    ensures { λ r. ⌜ r ≡ keysFor place ⌝ }
+{
+    if place == Word::NO_KEY {
+        return 0;
+    }
+    place + 1
+}
+
+// A letter's key that is not among those typed, or the tone's. The turns are as many for every word, so that the compiler takes sixteen
+// letters at once; what stands past the letters is of no account.
+pub fn places_wrong(
+    typed: u8,
+    count: u8,
+    appended_by: &[u8; Word::KEYS],
+    shaped_by: &[u8; Word::KEYS],
+    toned_by: u8,
+) -> bool
+    ensures { λ r. ⌜ r ≡ placesWrong typed count (now («appended_by» .entry)) (now («shaped_by» .entry)) «toned_by» ⌝ }
+{
+    let by = &appended_by[..];
+    let shaped = &shaped_by[..];
+    let mut wrong = false;
+    let mut nth: u8 = 1;
+    let mut i = 0;
+    while i < Word::KEYS {
+        wrong = wrong | ((nth <= count) & ((typed <= by[i]) | (typed < keys_for(shaped[i]))));
+        nth += 1;
+        i += 1;
+    }
+    wrong | (typed < keys_for(toned_by))
+}
+
+// A word's numbers: its record without the mode, which never changes, the arrays and the place of the tone's key. In this order the
+// seven bytes are moved at once.
 pub struct Numbers {
+    pub count: u8,
+    pub tone: u8,
+    pub closed: bool,
     pub typed: u8,
     pub acted: u8,
     pub undone: u8,
     pub appended: u8,
-    pub count: u8,
-    pub tone: u8,
-    pub closed: bool,
 }
 
 pub fn numbers_of(w: Word) -> Numbers
     ensures { λ r. ⌜ r ≡ numbersOf w ⌝ }
 {
     Numbers {
+        count: w.count,
+        tone: w.tone,
+        closed: w.closed,
         typed: w.typed,
         acted: w.acted,
         undone: w.undone,
         appended: w.appended,
-        count: w.count,
-        tone: w.tone,
-        closed: w.closed,
     }
 }
 
-// The record that a mode, letters, keys and numbers are.
-pub fn word_in(mode: u8, letters: [u16; Word::KEYS], keys: [u8; Word::KEYS], n: Numbers) -> Word
-    ensures { λ r. ⌜ r ≡ wordIn mode letters keys n ⌝ }
+// The record that a mode, letters, places of keys, keys and numbers are.
+pub fn word_in(
+    mode: u8,
+    letters: [u16; Word::KEYS],
+    appended_by: [u8; Word::KEYS],
+    shaped_by: [u8; Word::KEYS],
+    keys: [u8; Word::KEYS],
+    toned_by: u8,
+    n: Numbers,
+) -> Word
+    ensures { λ r. ⌜ r ≡ wordIn mode letters «appended_by» «shaped_by» keys «toned_by» n ⌝ }
 {
     Word {
         mode: mode,
         letters: letters,
+        appended_by: appended_by,
+        shaped_by: shaped_by,
         count: n.count,
         tone: n.tone,
+        toned_by: toned_by,
         closed: n.closed,
         keys: keys,
         typed: n.typed,
@@ -90,19 +136,45 @@ pub fn numbers_wrong(mode: u8, n: Numbers) -> bool
                 | ((DOT < n.tone) | !keys::is_mode(mode))))
 }
 
+// The same of a record whose arrays are lent.
+pub fn lent_out_of_range(
+    letters: &[u16; Word::KEYS],
+    appended_by: &[u8; Word::KEYS],
+    shaped_by: &[u8; Word::KEYS],
+    keys: &[u8; Word::KEYS],
+    toned_by: u8,
+    mode: u8,
+    n: Numbers,
+) -> bool
+    ensures { λ r. ⌜ r ≡ outOfRange (wordIn mode (now (letters .entry)) (now («appended_by» .entry)) (now («shaped_by» .entry)) (now (keys .entry)) «toned_by» n) ⌝ }
+{
+    if numbers_wrong(mode, n) | places_wrong(n.typed, n.count, appended_by, shaped_by, toned_by) {
+        return true;
+    }
+    let typed = n.typed as usize;
+    let kept = &keys[..];
+    if !keys_allowed(mode, &kept[0..typed]) {
+        return true;
+    }
+    let count = n.count as usize;
+    let held = &letters[..];
+    !letters_allowed(mode, &held[0..count])
+}
+
 pub fn out_of_range(w: Word) -> bool
     ensures { λ r. ⌜ r ≡ outOfRange w ⌝ }
 {
-    let mode = w.mode;
-    if numbers_wrong(mode, numbers_of(w)) {
-        return true;
-    }
-    let typed = w.typed as usize;
-    let keys = w.keys;
-    if !keys_allowed(mode, &keys[0..typed]) {
-        return true;
-    }
-    let count = w.count as usize;
     let letters = w.letters;
-    !letters_allowed(mode, &letters[0..count])
+    let appended_by = w.appended_by;
+    let shaped_by = w.shaped_by;
+    let keys = w.keys;
+    lent_out_of_range(
+        &letters,
+        &appended_by,
+        &shaped_by,
+        &keys,
+        w.toned_by,
+        w.mode,
+        numbers_of(w),
+    )
 }

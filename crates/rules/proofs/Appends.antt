@@ -3,13 +3,14 @@ use mathlib.Core.Path.{_≡_, refl, sym, ap, subst, _∙_}
 use mathlib.Core.Bool.{Bool, true, false, not, _&&_}
 use mathlib.Core.List.{List, [], _∷_, _++_, append-assoc}
 use mathlib.Core.Logic.{inl, inr}
-use Prim.Native.Nat.{ℕ}
+use Prim.Native.Nat.{ℕ, suc}
 use Prim.Native.Char.{code}
 use lib.Dec.{T, eqb}
+use lib.ListN.{length}
 use lib.Ieee.Fits.{and-l, and-r}
 use Rattle.rules.specs.Letters.{Letter, Letters, plain, horn, noTone, among, words, oneOf, named, is}
 use Rattle.rules.specs.TheWord.{State, Typed, Done, stateOf, outcomeOf, isAppended}
-use Rattle.rules.specs.KeyRoles.{letterOfKey, role, shaped, awaitsSecondHorn, asksSecondHorn, takesSecondHorn, hornOnU, hornOnUIf, append, undoIf, actIf, toneGoes, Edit, nothing, shapeEdit, strokeEdit, editDoes, roleDoes, unlessClosed, keyDoes}
+use Rattle.rules.specs.KeyRoles.{letterOfKey, role, shaped, awaitsSecondHorn, asksSecondHorn, takesSecondHorn, hornOnU, hornOnUIf, placeOfU, append, undoIf, actIf, toneGoes, Edit, nothing, shapeEdit, strokeEdit, editDoes, roleDoes, unlessClosed, keyDoes}
 use Rattle.rules.specs.Appending.{UHorned, OneCase}
 use Rattle.rules.specs.declared.Role.{Role}
 use Rattle.rules.specs.declared.Role.the-variants.{ToneRole, ShapeRole, StrokeRole, NoRole}
@@ -29,6 +30,12 @@ horn-past (z ∷ v) x y n t =
     rw (hornOnU, is-false (eqb (z .base) (code "u")) (and-l (not (eqb (z .base) (code "u"))) (noU (bases v)) n))
     (ap (_∷_ z) (horn-past v x y (and-r (not (eqb (z .base) (code "u"))) (noU (bases v)) n) t))
 
+u-past : (v : Letters) (x : Letter) (xs : Letters) → T (noU (bases v)) → T (eqb (x .base) (code "u")) → placeOfU (v ++ (x ∷ xs)) ≡ length v
+u-past [] x xs n t = rw (placeOfU, is-true (eqb (x .base) (code "u")) t)
+u-past (z ∷ v) x xs n t =
+    rw (placeOfU, is-false (eqb (z .base) (code "u")) (and-l (not (eqb (z .base) (code "u"))) (noU (bases v)) n))
+    (ap suc (u-past v x xs (and-r (not (eqb (z .base) (code "u"))) (noU (bases v)) n) t))
+
 -- what awaits it: h, kh or th, u and ơ
 pub record Awaits (w : Letters) : Type 0 where
   pub initial : Letters
@@ -39,12 +46,15 @@ pub record Awaits (w : Letters) : Type 0 where
   pub is-u : T (is u (named (code "u")))
   pub is-o : T (is o (named (code "ơ")))
   pub horned : hornOnU w ≡ initial ++ (shaped horn u ∷ o ∷ [])
+  pub u-place : placeOfU w ≡ length initial
 
 pub awaits : (w : Letters) → T (awaitsSecondHorn w) → Awaits w
 awaits w t =
     let o = ended (named (code "ơ")) (words "hu khu thu") w t in
     let u = ended (named (code "u")) (words "h kh th") (o .front) (o .is-front) in
     let e : w ≡ u .front ++ (u .last ∷ o .last ∷ []) = o .word ∙ ap (λ (v : Letters). v ++ (o .last ∷ [])) (u .word) ∙ append-assoc (u .front) (u .last ∷ []) (o .last ∷ []) in
+    let no-u = of-words noU (u .front) (words "h kh th") tt (u .is-front) in
+    let is-u = and-l (eqb (u .last .base) (code "u")) (eqb (u .last .shape) plain) (u .is-last) in
     record {
       initial = u .front;
       u = u .last;
@@ -53,9 +63,8 @@ awaits w t =
       is-initial = u .is-front;
       is-u = u .is-last;
       is-o = o .is-last;
-      horned =
-          ap hornOnU e ∙
-          horn-past (u .front) (u .last) (o .last) (of-words noU (u .front) (words "h kh th") tt (u .is-front)) (and-l (eqb (u .last .base) (code "u")) (eqb (u .last .shape) plain) (u .is-last));
+      horned = ap hornOnU e ∙ horn-past (u .front) (u .last) (o .last) no-u is-u;
+      u-place = ap placeOfU e ∙ u-past (u .front) (u .last) (o .last ∷ []) no-u is-u;
     }
 
 module _ (s : State) (k : Letter) where
@@ -94,8 +103,8 @@ module _ (s : State) (k : Letter) where
 appended-edit : (e : Edit) (s : State) (k : Letter) → T (isAppended (outcomeOf (editDoes e s k))) → stateOf (editDoes e s k) ≡ append s k
 appended-edit nothing s k t = refl
 
-appended-if : (c : Bool) (a : Act) (s p : State) → T (isAppended (outcomeOf (actIf c a s p))) → stateOf (actIf c a s p) ≡ p
-appended-if false a s p t = refl
+appended-if : (c : Bool) (a : Act) (s : State) (d : Done) → T (isAppended (outcomeOf (actIf c a s d))) → stateOf (actIf c a s d) ≡ stateOf d
+appended-if false a s d t = refl
 
 appended-unless : (c : Bool) (u : State) (d : Done) (p : State) → (T (isAppended (outcomeOf d)) → stateOf d ≡ p) → T (isAppended (outcomeOf (undoIf c u d))) → stateOf (undoIf c u d) ≡ p
 appended-unless false u d p h t = h t

@@ -24,3 +24,4 @@ pub mod TonePlaces
 pub mod TextFits
 pub mod Commits
 pub mod NotRefused
+pub mod KeyPlaces

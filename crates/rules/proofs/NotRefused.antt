@@ -120,7 +120,7 @@ module _ (m : ℕ) (ks : List ℕ) where
         go none e = refl
         go (some y) e = let z : _≡_ {A = ℕ} 0 1 = cc in absurd (omega arith)
 
-    typed-as : typeAll m ks .word ≡ holding (newWord m) (typed m ks)
+    pub typed-as : typeAll m ks .word ≡ holding (newWord m) (typed m ks)
     unfolding typeAll
     typed-as = ap (λ (o : Option Refusal). typeOr o m ks .word) not-refused
 
@@ -128,18 +128,18 @@ module _ (m : ℕ) (ks : List ℕ) where
     held-by (not-this range (not-this mode (not-this full (not-this text (not-this byte more))))) =
         list-held (newWord m) (wordOf (newWord m)) ks (new-held m (not-not (isMode m) mode)) (nltb→le mostKeys (0 + length ks) full) (not-not (all (isKey m) ks) byte)
 
-    held : Held (newWord m) (typed m ks)
-    held = held-by (refusal-none (typeCall m ks) .0 not-refused)
+    pub typed-held : Held (newWord m) (typed m ks)
+    typed-held = held-by (refusal-none (typeCall m ks) .0 not-refused)
 
     pub typed-in-range : outOfRange (typeAll m ks .word) ≡ false
-    typed-in-range = ap outOfRange typed-as ∙ is-false (outOfRange (holding (newWord m) (typed m ks))) (held .range)
+    typed-in-range = ap outOfRange typed-as ∙ is-false (outOfRange (holding (newWord m) (typed m ks))) (typed-held .range)
 
     pub typed-word : wordOf (typeAll m ks .word) ≡ typed m ks
-    typed-word = ap wordOf typed-as ∙ word-held (newWord m) (typed m ks) (held .fine .letters)
+    typed-word = ap wordOf typed-as ∙ word-held (newWord m) (typed m ks) (typed-held .fine .letters) (typed-held .abreast)
 
     -- of which there are at most 32, and no more letters than keys
     pub few-keys : length ks ≤ mostKeys
-    few-keys = omega (arith, in-range (holding (newWord m) (typed m ks)) (held .range) .typed, kept-keys (wordOf (newWord m)) ks)
+    few-keys = omega (arith, in-range (holding (newWord m) (typed m ks)) (typed-held .range) .typed, kept-keys (wordOf (newWord m)) ks)
 
     pub fewer-letters : length (typed m ks .state .letters) ≤ length ks
-    fewer-letters = omega (arith, in-range (holding (newWord m) (typed m ks)) (held .range) .fewer, kept-keys (wordOf (newWord m)) ks)
+    fewer-letters = omega (arith, in-range (holding (newWord m) (typed m ks)) (typed-held .range) .fewer, kept-keys (wordOf (newWord m)) ks)

@@ -10,7 +10,7 @@ use lib.Ieee.Fits.{eq→eqb}
 use Rattle.rules.specs.Letters.{dot}
 use Rattle.rules.specs.TheWord.{mostKeys}
 use Rattle.rules.specs.KeyRoles.{isKey}
-use Rattle.rules.specs.Refusals.{all, any, allLetters, isMode, countsOver, letterAllowed, shapeCarried, noCapitalDigit, rangeFaults, outOfRange}
+use Rattle.rules.specs.Refusals.{all, any, allLetters, isMode, countsOver, letterAllowed, shapeCarried, noCapitalDigit, isPlace, isPlaceOrNone, rangeFaults, outOfRange}
 use Rattle.rules.specs.declared.Word.{Word}
 use Rattle.rules.proofs.Numbers.{NumbersInRange}
 
@@ -46,6 +46,9 @@ pub record InRange (w : Word) : Type 0 where
   pub letters : NumbersInRange (w .mode) (take (w .count) (w .letters))
   pub tone : w .tone ≤ dot
   pub mode : T (isMode (w .mode))
+  pub by : T (all (isPlace (w .typed)) (take (w .count) (w .«appended_by»)))
+  pub shaped-by : T (all (isPlaceOrNone (w .typed)) (take (w .count) (w .«shaped_by»)))
+  pub toned-by : T (isPlaceOrNone (w .typed) (w .«toned_by»))
 
 pub not-not : (b : Bool) → T (not (not b)) → T b
 not-not true t = tt
@@ -76,11 +79,14 @@ range-in w r =
     (not-this (twice (allLetters shapeCarried (take (w .count) (w .letters))) (r .letters .carried))
     (not-this (twice (allLetters noCapitalDigit (take (w .count) (w .letters))) (r .letters .digit))
     (not-this (not-over dot (w .tone) (r .tone))
-    (not-this (twice (isMode (w .mode)) (r .mode)) none-left)))))))) in
+    (not-this (twice (isMode (w .mode)) (r .mode))
+    (not-this (twice (all (isPlace (w .typed)) (take (w .count) (w .«appended_by»))) (r .by))
+    (not-this (twice (all (isPlaceOrNone (w .typed)) (take (w .count) (w .«shaped_by»))) (r .shaped-by))
+    (not-this (twice (isPlaceOrNone (w .typed) (w .«toned_by»)) (r .toned-by)) none-left))))))))))) in
     not-any none
 
 said : (w : Word) → NoneOf (rangeFaults w) → NoneOf (countsOver w) → InRange w
-said w (not-this over (not-this fewer (not-this sum (not-this keys (not-this allowed (not-this carried (not-this digit (not-this tone (not-this mode none-left)))))))))
+said w (not-this over (not-this fewer (not-this sum (not-this keys (not-this allowed (not-this carried (not-this digit (not-this tone (not-this mode (not-this by (not-this shaped (not-this toned none-left))))))))))))
     (not-this t (not-this c (not-this a (not-this u (not-this p none-left))))) =
     record {
       typed = nltb→le mostKeys (w .typed) t;
@@ -94,6 +100,9 @@ said w (not-this over (not-this fewer (not-this sum (not-this keys (not-this all
       letters = record { allowed = search not-not; carried = search not-not; digit = search not-not };
       tone = nltb→le dot (w .tone) tone;
       mode = search not-not;
+      by = not-not (all (isPlace (w .typed)) (take (w .count) (w .«appended_by»))) by;
+      shaped-by = not-not (all (isPlaceOrNone (w .typed)) (take (w .count) (w .«shaped_by»))) shaped;
+      toned-by = not-not (isPlaceOrNone (w .typed) (w .«toned_by»)) toned;
     }
 
 counted : (w : Word) → NoneOf (rangeFaults w) → T (not (any (countsOver w)))

@@ -17,17 +17,20 @@ use Rattle.rules.specs.declared.StepAnswer.the-variants.{Did}
 use Rattle.rules.specs.LettersOfAMode.{AllFine}
 use Rattle.rules.proofs.Numbers.{letters-numbers}
 use Rattle.rules.proofs.Refused.{refusal-none}
-use Rattle.rules.proofs.StaysInRange.{read-front}
+use Rattle.rules.proofs.StaysInRange.{Abreast, read-front}
 use Rattle.rules.proofs.Range.{not-over, twice}
 
 -- the record with other arrays
-abbrev pub withArrays : Word → List ℕ → List ℕ → Word
-withArrays w ls ks =
+abbrev pub withArrays : Word → List ℕ → List ℕ → List ℕ → List ℕ → Word
+withArrays w ls ps ss ks =
     record {
       mode = w .mode;
       letters = ls;
+      «appended_by» = ps;
+      «shaped_by» = ss;
       count = w .count;
       tone = w .tone;
+      «toned_by» = w .«toned_by»;
       closed = w .closed;
       keys = ks;
       typed = w .typed;
@@ -37,12 +40,26 @@ withArrays w ls ks =
     }
 
 -- what a record holds is read back
-pub word-held : (w : Word) (z : Typed) → AllFine (z .mode) (z .state .letters) → wordOf (holding w z) ≡ z
-word-held w z f =
-    let ls : map letter (take (length (z .state .letters)) (atFront (map number (z .state .letters)) (w .letters))) ≡ z .state .letters =
-    ap (map letter) (read-front (map number (z .state .letters)) (w .letters) (length (z .state .letters)) (length-map (z .state .letters) number)) ∙ letters-numbers f in
+letters-held : (w : Word) (z : Typed) → AllFine (z .mode) (z .state .letters) → map letter (take (length (z .state .letters)) (atFront (map number (z .state .letters)) (w .letters))) ≡ z .state .letters
+letters-held w z f = ap (map letter) (read-front (map number (z .state .letters)) (w .letters) (length (z .state .letters)) (length-map (z .state .letters) number)) ∙ letters-numbers f
+
+pub state-held : (w : Word) (z : Typed) → AllFine (z .mode) (z .state .letters) → wordOf (holding w z) .state ≡ z .state
+state-held w z f = λ i. record { letters = letters-held w z f i; tone = z .state .tone; closed = z .state .closed }
+
+pub word-held : (w : Word) (z : Typed) → AllFine (z .mode) (z .state .letters) → Abreast z → wordOf (holding w z) ≡ z
+word-held w z f a =
     let ks : take (length (z .keys)) (atFront (z .keys) (w .keys)) ≡ z .keys = read-front (z .keys) (w .keys) (length (z .keys)) refl in
-    λ i. record { mode = z .mode; state = record { letters = ls i; tone = z .state .tone; closed = z .state .closed }; keys = ks i; acted = z .acted; undone = z .undone; appended = z .appended }
+    let ps = read-front (z .places .appendedBy) (w .«appended_by») (length (z .state .letters)) (a .by) in
+    let ss = read-front (z .places .shapedBy) (w .«shaped_by») (length (z .state .letters)) (a .shaped-by) in
+    λ i. record {
+      mode = z .mode;
+      state = state-held w z f i;
+      places = record { appendedBy = ps i; shapedBy = ss i; tonedBy = z .places .tonedBy };
+      keys = ks i;
+      acted = z .acted;
+      undone = z .undone;
+      appended = z .appended;
+    }
 
 -- one held after another: what is longer in front covers what is shorter
 pub front-front : (new mid old : List ℕ) → length mid ≤ length new → atFront new (atFront mid old) ≡ atFront new old
@@ -51,15 +68,20 @@ front-front new mid old h =
     let e : length new ≡ length mid + d = omega arith in
     ap (_++_ new) (ap (λ (n : ℕ). drop n (atFront mid old)) e ∙ drop-append-add mid (drop (length mid) old) d ∙ drop-drop d (length mid) old ∙ ap (λ (n : ℕ). drop n old) (sym e))
 
-pub held-twice : (w : Word) (y z : Typed) → length (y .state .letters) ≤ length (z .state .letters) → length (y .keys) ≤ length (z .keys) → holding (holding w y) z ≡ holding w z
-held-twice w y z l k =
+pub held-twice : (w : Word) (y z : Typed) → Abreast y → Abreast z → length (y .state .letters) ≤ length (z .state .letters) → length (y .keys) ≤ length (z .keys) → holding (holding w y) z ≡ holding w z
+held-twice w y z a b l k =
     let ls = front-front (map number (z .state .letters)) (map number (y .state .letters)) (w .letters) (simp length-map l) in
     let ks = front-front (z .keys) (y .keys) (w .keys) k in
+    let ps = front-front (z .places .appendedBy) (y .places .appendedBy) (w .«appended_by») (omega (arith, a .by, b .by)) in
+    let ss = front-front (z .places .shapedBy) (y .places .shapedBy) (w .«shaped_by») (omega (arith, a .shaped-by, b .shaped-by)) in
     λ i. record {
       mode = z .mode;
       letters = ls i;
+      «appended_by» = ps i;
+      «shaped_by» = ss i;
       count = length (z .state .letters);
       tone = z .state .tone;
+      «toned_by» = z .places .tonedBy;
       closed = z .state .closed;
       keys = ks i;
       typed = length (z .keys);

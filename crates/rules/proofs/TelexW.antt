@@ -2,7 +2,8 @@
 use mathlib.Core.Path.{_≡_, refl}
 use Rattle.rules.specs.Letters.{word}
 use Rattle.rules.specs.KeyRoles.{off, shapeEdit}
+use Rattle.rules.specs.declared.Touched.the-variants.{OneLetter}
 use Rattle.rules.specs.declared.ShapeKey.the-variants.{HornBreve}
 
-pub horn-before-breve : shapeEdit HornBreve (word "ưă") ≡ off (word "uă")
+pub horn-before-breve : shapeEdit HornBreve (word "ưă") ≡ off (OneLetter 0) (word "uă")
 horn-before-breve = refl

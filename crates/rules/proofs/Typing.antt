@@ -16,7 +16,7 @@ use Rattle.rules.specs.declared.Word.{Word}
 use Rattle.rules.specs.declared.Step.{Step}
 use Rattle.rules.proofs.Tests.{either}
 use Rattle.rules.specs.LettersOfAMode.{no-letters}
-use Rattle.rules.proofs.StaysInRange.{Whole, StateFine, Next, next, step-in-range}
+use Rattle.rules.proofs.StaysInRange.{Whole, StateFine, Next, Abreast, next, no-shorter, abreast-next, step-in-range}
 use Rattle.rules.proofs.Records.{word-held, held-twice, accepted}
 
 -- a record in range that holds this word
@@ -24,6 +24,7 @@ pub record Held (n : Word) (z : Typed) : Type 0 where
   pub range : T (not (outOfRange (holding n z)))
   pub whole : Whole (holding n z)
   pub fine : StateFine (z .mode) (z .state)
+  pub abreast : Abreast z
 
 -- one key more
 module _ (n : Word) (z : Typed) (k : ℕ) (held : Held n z) (room : length (z .keys) + 1 ≤ mostKeys) (key : T (isKey (z .mode) k)) where
@@ -33,13 +34,13 @@ module _ (n : Word) (z : Typed) (k : ℕ) (held : Held n z) (room : length (z .k
   pub steps : step (holding n z) k .word ≡ holding n (type z k)
   steps =
       ap (λ (s : Step). s .word) (accepted (holding n z) k (held .range) room key) ∙
-      ap (λ (y : Typed). holding (holding n z) (type y k)) (word-held n z (held .fine .letters)) ∙
-      held-twice n z (type z k) (left .no-shorter) (simp (length-append (z .keys) (k ∷ [])) (omega arith))
+      ap (λ (y : Typed). holding (holding n z) (type y k)) (word-held n z (held .fine .letters) (held .abreast)) ∙
+      held-twice n z (type z k) (held .abreast) (abreast-next z k left (held .abreast)) (no-shorter left) (simp (length-append (z .keys) (k ∷ [])) (omega arith))
 
   pub still-held : Held n (type z k)
   still-held =
       let (range, whole) = step-in-range (holding n z) k (held .whole) (held .range) in
-      record { range = subst (λ (w : Word). T (not (outOfRange w))) steps range; whole = subst Whole steps whole; fine = left .fine }
+      record { range = subst (λ (w : Word). T (not (outOfRange w))) steps range; whole = subst Whole steps whole; fine = left .fine; abreast = abreast-next z k left (held .abreast) }
 
 -- a new word
 pub of-modes : (P : ℕ → Type 0) → P telex → P vni → (m : ℕ) → T (isMode m) → P m
@@ -49,8 +50,8 @@ pub new-held : (m : ℕ) → T (isMode m) → Held (newWord m) (wordOf (newWord 
 unfolding outOfRange
 new-held =
     of-modes (λ m. Held (newWord m) (wordOf (newWord m)))
-    (record { range = tt; whole = record { letters = refl; keys = refl }; fine = record { letters = no-letters; tone = lit≤ tt } })
-    (record { range = tt; whole = record { letters = refl; keys = refl }; fine = record { letters = no-letters; tone = lit≤ tt } })
+    (record { range = tt; whole = record { letters = refl; by = refl; shaped-by = refl; keys = refl }; fine = record { letters = no-letters; tone = lit≤ tt }; abreast = record { by = refl; shaped-by = refl } })
+    (record { range = tt; whole = record { letters = refl; by = refl; shaped-by = refl; keys = refl }; fine = record { letters = no-letters; tone = lit≤ tt }; abreast = record { by = refl; shaped-by = refl } })
 
 -- a list of keys
 pub kept-mode : (z : Typed) (ks : List ℕ) → typeList z ks .mode ≡ z .mode

@@ -22,12 +22,14 @@ use Rattle.rules.specs.declared.StepAnswer.the-variants.{Did}
 use Rattle.rules.specs.declared.PlaceAnswer.the-variants.{Found}
 use Rattle.rules.specs.declared.VerdictAnswer.the-variants.{Judged}
 use Rattle.rules.specs.declared.DecisionAnswer.the-variants.{Decided}
-use Rattle.rules.proofs.StaysInRange.{read-front}
+use Rattle.rules.proofs.Range.{in-range}
+use Rattle.rules.proofs.Refused.{refusal-none}
+use Rattle.rules.proofs.StaysInRange.{Whole, Abreast, abreast-next, abreast-of, state-fine, next, taken, read-front}
 use Rattle.rules.proofs.Records.{withArrays}
 
 -- the record with its used places alone
 abbrev pub used : Word → Word
-used w = withArrays w (take (w .count) (w .letters)) (take (w .typed) (w .keys))
+used w = withArrays w (take (w .count) (w .letters)) (take (w .count) (w .«appended_by»)) (take (w .count) (w .«shaped_by»)) (take (w .typed) (w .keys))
 
 again : (n : ℕ) (l : List ℕ) → take n (take n l) ≡ take n l
 again n l = take-take n n l (le-refl n)
@@ -35,13 +37,14 @@ again n l = take-take n n l (le-refl n)
 -- what reads used places alone answers the same of both
 range-used : (w : Word) → outOfRange (used w) ≡ outOfRange w
 unfolding outOfRange
-range-used w = rw (again (w .typed) (w .keys), again (w .count) (w .letters))
+range-used w = rw (again (w .typed) (w .keys), again (w .count) (w .letters), again (w .count) (w .«appended_by»), again (w .count) (w .«shaped_by»))
 
 word-used : (w : Word) → wordOf (used w) ≡ wordOf w
 word-used w =
     λ i. record {
       mode = w .mode;
       state = record { letters = map letter (again (w .count) (w .letters) i); tone = w .tone; closed = w .closed };
+      places = record { appendedBy = again (w .count) (w .«appended_by») i; shapedBy = again (w .count) (w .«shaped_by») i; tonedBy = w .«toned_by» };
       keys = again (w .typed) (w .keys) i;
       acted = w .acted;
       undone = w .undone;
@@ -73,19 +76,31 @@ step-used w k =
     answer-used (λ o v. stepOr o v k .answer) (λ z. Did (outcomeOf (keyDoes z k))) (λ v. refl) (λ x v. refl) (refusal (stepCall w k)) w
 
 -- what a record that holds a word uses is of the word alone
-held-used : (w : Word) (z : Typed) → used (holding w z) ≡ withArrays (holding w z) (map number (z .state .letters)) (z .keys)
-held-used w z =
-    ap₂ (withArrays (holding w z)) (read-front (map number (z .state .letters)) (w .letters) (length (z .state .letters)) (length-map (z .state .letters) number)) (read-front (z .keys) (w .keys) (length (z .keys)) refl)
+held-used : (w : Word) (z : Typed) → Abreast z → used (holding w z) ≡ withArrays (holding w z) (map number (z .state .letters)) (z .places .appendedBy) (z .places .shapedBy) (z .keys)
+held-used w z a =
+    let n = length (z .state .letters) in
+    λ i. withArrays (holding w z) (read-front (map number (z .state .letters)) (w .letters) n (length-map (z .state .letters) number) i) (read-front (z .places .appendedBy) (w .«appended_by») n (a .by) i)
+    (read-front (z .places .shapedBy) (w .«shaped_by») n (a .shaped-by) i) (read-front (z .keys) (w .keys) (length (z .keys)) refl i)
 
 used-used : (w : Word) → used (used w) ≡ used w
-used-used w = ap₂ (withArrays w) (again (w .count) (w .letters)) (again (w .typed) (w .keys))
+used-used w = λ i. withArrays w (again (w .count) (w .letters) i) (again (w .count) (w .«appended_by») i) (again (w .count) (w .«shaped_by») i) (again (w .typed) (w .keys) i)
 
-next-used : (w : Word) (k : ℕ) → used (step (used w) k .word) ≡ used (step w k .word)
+-- a record of which a step is not refused holds as many places of keys as letters, and so does it after the step
+abreast-after : (w : Word) (k : ℕ) → Whole w → refusal (stepCall w k) ≡ none → Abreast (type (wordOf w) k)
+abreast-after w k whole e =
+    let t = taken w k (refusal-none (stepCall w k) .0 e) in
+    let r = in-range w (t .range) in
+    abreast-next (wordOf w) k (next (wordOf w) k (t .key) (state-fine w r)) (abreast-of w whole (r .count))
+
+next-used : (w : Word) (k : ℕ) → Whole w → used (step (used w) k .word) ≡ used (step w k .word)
 unfolding step
-next-used w k =
-    ap (λ (o : Option Refusal). used (stepOr o (used w) k .word)) (refusal-used w (stepCall (used w) k) (stepCall w k) refl refl refl) ∙
-    answer-used (λ o v. used (stepOr o v k .word)) (λ z. withArrays (holding w (type z k)) (map number (type z k .state .letters)) (type z k .keys))
-    (λ v. held-used v (type (wordOf v) k)) (λ x v. used-used v) (refusal (stepCall w k)) w
+next-used w k whole = ap (λ (o : Option Refusal). used (stepOr o (used w) k .word)) (refusal-used w (stepCall (used w) k) (stepCall w k) refl refl refl) ∙ go (refusal (stepCall w k)) refl
+  where
+    go : (o : Option Refusal) → refusal (stepCall w k) ≡ o → used (stepOr o (used w) k .word) ≡ used (stepOr o w k .word)
+    go (some x) e = used-used w
+    go none e =
+        let a = abreast-after w k whole e in
+        ap (λ (z : Typed). used (holding (used w) (type z k))) (word-used w) ∙ held-used (used w) (type (wordOf w) k) a ∙ sym (held-used w (type (wordOf w) k) a)
 
 show-used : (w : Word) (out : List ℕ) → show (used w) out ≡ show w out
 unfolding show
@@ -118,8 +133,8 @@ module _ (v w : Word) (agree : used v ≡ used w) where
   pub same-step : (k : ℕ) → step v k .answer ≡ step w k .answer
   same-step k = sym (step-used v k) ∙ ap (λ (x : Word). step x k .answer) agree ∙ step-used w k
 
-  pub same-word : (k : ℕ) → used (step v k .word) ≡ used (step w k .word)
-  same-word k = sym (next-used v k) ∙ ap (λ (x : Word). used (step x k .word)) agree ∙ next-used w k
+  pub same-word : (k : ℕ) → Whole v → Whole w → used (step v k .word) ≡ used (step w k .word)
+  same-word k p q = sym (next-used v k p) ∙ ap (λ (x : Word). used (step x k .word)) agree ∙ next-used w k q
 
   pub same-show : (out : List ℕ) → show v out ≡ show w out
   same-show out = sym (show-used v out) ∙ ap (λ (x : Word). show x out) agree ∙ show-used w out
@@ -155,3 +170,21 @@ keys-past w k i d = go (refusal (stepCall w k))
     go : (o : Option Refusal) → stepOr o w k .word .typed ≤ i → getD (stepOr o w k .word .keys) i d ≡ getD (w .keys) i d
     go none h = unused (type (wordOf w) k .keys) (w .keys) i d h
     go (some x) h = refl
+
+-- and so is a place of a key past the letters
+module _ (w : Word) (k i d : ℕ) (whole : Whole w) where
+  pub by-past : step w k .word .count ≤ i → getD (step w k .word .«appended_by») i d ≡ getD (w .«appended_by») i d
+  unfolding step
+  by-past = go (refusal (stepCall w k)) refl
+    where
+      go : (o : Option Refusal) → refusal (stepCall w k) ≡ o → stepOr o w k .word .count ≤ i → getD (stepOr o w k .word .«appended_by») i d ≡ getD (w .«appended_by») i d
+      go none e h = unused (type (wordOf w) k .places .appendedBy) (w .«appended_by») i d (omega (arith, h, abreast-after w k whole e .by))
+      go (some x) e h = refl
+
+  pub shaped-past : step w k .word .count ≤ i → getD (step w k .word .«shaped_by») i d ≡ getD (w .«shaped_by») i d
+  unfolding step
+  shaped-past = go (refusal (stepCall w k)) refl
+    where
+      go : (o : Option Refusal) → refusal (stepCall w k) ≡ o → stepOr o w k .word .count ≤ i → getD (stepOr o w k .word .«shaped_by») i d ≡ getD (w .«shaped_by») i d
+      go none e h = unused (type (wordOf w) k .places .shapedBy) (w .«shaped_by») i d (omega (arith, h, abreast-after w k whole e .shaped-by))
+      go (some x) e h = refl

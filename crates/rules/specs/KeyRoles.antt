@@ -1,7 +1,7 @@
 -- 6 What a key does (docs/RULES.md): the keys and their roles in both modes, and the rules for one key.
 use mathlib.Core.Bool.{Bool, true, false, not, _&&_, _||_}
 use mathlib.Core.List.{List, [], _∷_, _++_}
-use Prim.Native.Nat.{ℕ, _+_}
+use Prim.Native.Nat.{ℕ, suc, _+_}
 use Prim.Native.Char.{code}
 use lib.Dec.{eqb, leb}
 use Rattle.rules.specs.Letters.{Letter, Letters, plain, circumflex, breve, horn, stroke, noTone, acute, grave, hook, tilde, dot, telex, vni, among, words, oneOf, named, is, isNil}
@@ -13,6 +13,8 @@ use Rattle.rules.specs.declared.ToneKey.{ToneKey}
 use Rattle.rules.specs.declared.ToneKey.the-variants.{SetTone, ClearTone}
 use Rattle.rules.specs.declared.ShapeKey.{ShapeKey}
 use Rattle.rules.specs.declared.ShapeKey.the-variants.{CircumflexOn, Circumflex, Breve, Horn, HornBreve}
+use Rattle.rules.specs.declared.Touched.{Touched}
+use Rattle.rules.specs.declared.Touched.the-variants.{NoLetter, OneLetter, TwoLetters}
 use Rattle.rules.specs.declared.Act.{Act}
 use Rattle.rules.specs.declared.Act.the-variants.{Tone, Shape, Stroke, Clear}
 
@@ -72,7 +74,7 @@ shaped sh x = record { base = x .base; shape = sh; capital = x .capital }
 
 -- 6.7 An appended key is one more letter at the end. Letters and shapes before it and the number of the tone stay as
 -- they are, but in one case: an i, u, c, m, n, p or t, small or capital, that is appended to an open word huơ, khuơ
--- or thuơ puts the horn on the u too.
+-- or thuơ puts the horn on the u too, and has shaped it.
 abbrev pub awaitsSecondHorn : Letters → Bool
 awaitsSecondHorn w = oneOf w (words "huơ khuơ thuơ")
 
@@ -90,8 +92,19 @@ abbrev pub hornOnUIf : Bool → Letters → Letters
 hornOnUIf true w = hornOnU w
 hornOnUIf false w = w
 
+abbrev pub placeOfU : Letters → ℕ
+placeOfU [] = 0
+placeOfU (x ∷ xs) = elim (eqb (x .base) (code "u")) [ true ↦ 0 | false ↦ suc (placeOfU xs) ]
+
+abbrev pub touchedIf : Bool → Letters → Touched
+touchedIf true w = OneLetter (placeOfU w)
+touchedIf false w = NoLetter
+
 abbrev pub append : State → Letter → State
 append s k = record { letters = hornOnUIf (takesSecondHorn s k) (s .letters) ++ (k ∷ []); tone = s .tone; closed = s .closed }
+
+abbrev pub isAdded : State → Letter → Done
+isAdded s k = appended (touchedIf (takesSecondHorn s k) (s .letters)) (append s k)
 
 -- 6.8 An undo takes off the tone or the shape that its key stands for. The key then becomes a plain letter at the
 -- end, and the word is closed.
@@ -110,49 +123,54 @@ undo s k = append (close s) k
 -- 6.9 A tone key undoes where the word has its tone. Else, where the letters are admitted and its tone fits their
 -- final, it sets the tone, in place of any other. Else it is appended.
 abbrev pub undoIf : Bool → State → Done → Done
-undoIf true s d = undone s
+undoIf true s d = undone NoLetter s
 undoIf false s d = d
 
-abbrev pub actIf : Bool → Act → State → State → Done
-actIf true a s p = acted a s
-actIf false a s p = appended p
+abbrev pub actIf : Bool → Act → State → Done → Done
+actIf true a s d = acted a NoLetter s
+actIf false a s d = d
 
 abbrev pub toneGoes : ℕ → Letters → Bool
 toneGoes t w = admitted w && fits (final w) t
 
 abbrev pub toneDoes : ToneKey → State → Letter → Done
-toneDoes (SetTone t) s k = undoIf (eqb (s .tone) t) (undo (withTone s noTone) k) (actIf (toneGoes t (s .letters)) (Tone t) (withTone s t) (append s k))
+toneDoes (SetTone t) s k = undoIf (eqb (s .tone) t) (undo (withTone s noTone) k) (actIf (toneGoes t (s .letters)) (Tone t) (withTone s t) (isAdded s k))
 -- 6.10 A clear key acts where the tone is not 0, and makes it 0. Where it is 0 the key is appended.
-toneDoes ClearTone s k = actIf (not (eqb (s .tone) noTone)) Clear (withTone s noTone) (append s k)
+toneDoes ClearTone s k = actIf (not (eqb (s .tone) noTone)) Clear (withTone s noTone) (isAdded s k)
 
 -- 6.11 A shape key looks for its target among all letters of the word, by their bases and in any shape. It finds
 -- none; or one that has the shape, with the letters once it is off; or another, with the letters once it is on, in
--- place of an older shape.
+-- place of an older shape. Of a target it says which letters it is.
 pub data Found : Type 0 where
   nowhere : Found
-  already : Letters → Found
-  fresh : Letters → Found
+  already : Touched → Letters → Found
+  fresh : Touched → Letters → Found
+
+abbrev pub oneFurther : Touched → Touched
+oneFurther NoLetter = NoLetter
+oneFurther (OneLetter i) = OneLetter (suc i)
+oneFurther (TwoLetters i) = TwoLetters (suc i)
 
 abbrev pub behind : Letter → Found → Found
 behind x nowhere = nowhere
-behind x (already w) = already (x ∷ w)
-behind x (fresh w) = fresh (x ∷ w)
+behind x (already g w) = already (oneFurther g) (x ∷ w)
+behind x (fresh g w) = fresh (oneFurther g) (x ∷ w)
 
 abbrev pub orElse : Found → Found → Found
 orElse nowhere f = f
-orElse (already w) f = already w
-orElse (fresh w) f = fresh w
+orElse (already g w) f = already g w
+orElse (fresh g w) f = fresh g w
 
 abbrev pub ifSo : Bool → Found → Found
 ifSo true f = f
 ifSo false f = nowhere
 
-abbrev pub target : Bool → Letters → Letters → Found
-target true off on = already off
-target false off on = fresh on
+abbrev pub target : Bool → Touched → Letters → Letters → Found
+target true g off on = already g off
+target false g off on = fresh g on
 
 abbrev pub here : ℕ → Letter → Letters → Found
-here sh x xs = target (eqb (x .shape) sh) (shaped plain x ∷ xs) (shaped sh x ∷ xs)
+here sh x xs = target (eqb (x .shape) sh) (OneLetter 0) (shaped plain x ∷ xs) (shaped sh x ∷ xs)
 
 -- 6.12 A circumflex key aims at the last letter that it is for: in Telex the key's own letter, in VNI an a, e or o.
 abbrev pub last : (ℕ → Bool) → ℕ → Letters → Found
@@ -200,7 +218,7 @@ abbrev pub pairHere : Bool → Letter → Letters → Found
 pairHere afterQ x [] = nowhere
 pairHere afterQ x (z ∷ zs) =
     ifSo (isPair afterQ (x .base) (z .base))
-    (target (eqb (x .shape) horn && eqb (z .shape) horn) (shaped plain x ∷ shaped plain z ∷ zs) (shaped horn x ∷ shaped horn z ∷ zs))
+    (target (eqb (x .shape) horn && eqb (z .shape) horn) (TwoLetters 0) (shaped plain x ∷ shaped plain z ∷ zs) (shaped horn x ∷ shaped horn z ∷ zs))
 
 abbrev pub pair : Bool → Letters → Found
 pair afterQ [] = nowhere
@@ -222,8 +240,8 @@ horned w = orElse (oAlone w) (orElse (pair false w) (single false w))
 -- are admitted. Where they are not it is appended.
 pub data Edit : Type 0 where
   nothing : Edit
-  off : Letters → Edit
-  change : Act → Letters → Edit
+  off : Touched → Letters → Edit
+  change : Act → Touched → Letters → Edit
 
 abbrev pub onlyIf : Bool → Edit → Edit
 onlyIf true e = e
@@ -231,15 +249,15 @@ onlyIf false e = nothing
 
 abbrev pub asked : ℕ → Found → Edit
 asked sh nowhere = nothing
-asked sh (already w) = off w
-asked sh (fresh w) = onlyIf (admitted w) (change (Shape sh) w)
+asked sh (already g w) = off g w
+asked sh (fresh g w) = onlyIf (admitted w) (change (Shape sh) g w)
 
 -- 6.18 Telex w does what the horn rule says, undo or act; where that would append it, what the breve rule says of the
 -- same letters; where that would too, it is appended.
 abbrev pub first : Edit → Edit → Edit
 first nothing e = e
-first (off w) e = off w
-first (change a w) e = change a w
+first (off g w) e = off g w
+first (change a g w) e = change a g w
 
 abbrev pub shapeEdit : ShapeKey → Letters → Edit
 shapeEdit (CircumflexOn b) w = asked circumflex (circumflexOn b w)
@@ -253,26 +271,26 @@ shapeEdit HornBreve w = first (asked horn (horned w)) (asked breve (breved w))
 abbrev pub strokeEdit : Letters → Edit
 strokeEdit [] = nothing
 strokeEdit (x ∷ xs) =
-    first (onlyIf (is x (named (code "đ"))) (off (shaped plain x ∷ xs)))
-    (onlyIf (is x (named (code "d")) && (isNil xs || admitted (x ∷ xs))) (change Stroke (shaped stroke x ∷ xs)))
+    first (onlyIf (is x (named (code "đ"))) (off (OneLetter 0) (shaped plain x ∷ xs)))
+    (onlyIf (is x (named (code "d")) && (isNil xs || admitted (x ∷ xs))) (change Stroke (OneLetter 0) (shaped stroke x ∷ xs)))
 
 -- 6.20 A shape or stroke key that takes a mark off is an undo, one that puts a mark on acts, and one that does
 -- neither is appended.
 abbrev pub editDoes : Edit → State → Letter → Done
-editDoes nothing s k = appended (append s k)
-editDoes (off w) s k = undone (undo (withLetters s w) k)
-editDoes (change a w) s k = acted a (withLetters s w)
+editDoes nothing s k = isAdded s k
+editDoes (off g w) s k = undone g (undo (withLetters s w) k)
+editDoes (change a g w) s k = acted a g (withLetters s w)
 
 -- 6.5 In an open word a key does what its role says; without a role it is appended.
 abbrev pub roleDoes : Role → State → Letter → Done
 roleDoes (ToneRole t) s k = toneDoes t s k
 roleDoes (ShapeRole h) s k = editDoes (shapeEdit h (s .letters)) s k
 roleDoes StrokeRole s k = editDoes (strokeEdit (s .letters)) s k
-roleDoes NoRole s k = appended (append s k)
+roleDoes NoRole s k = isAdded s k
 
 -- 6.4 A key typed into a closed word is appended, whatever its role.
 abbrev pub unlessClosed : Bool → Role → State → Letter → Done
-unlessClosed true r s k = appended (append s k)
+unlessClosed true r s k = isAdded s k
 unlessClosed false r s k = roleDoes r s k
 
 abbrev pub keyDoes : Typed → ℕ → Done

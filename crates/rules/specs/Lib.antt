@@ -17,3 +17,4 @@ pub mod Cards
 pub mod Apprentices
 pub mod HandedBack
 pub mod Appending
+pub mod KeyPlaces

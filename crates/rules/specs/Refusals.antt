@@ -6,7 +6,7 @@ use Prim.Native.Nat.{ℕ, suc, _+_}
 use lib.Dec.{T, eqb, ltb}
 use lib.ListN.{length, take}
 use Rattle.rules.specs.Letters.{Letter, dot, telex, vni, carries}
-use Rattle.rules.specs.TheWord.{mostKeys, mostBytes, letter, number}
+use Rattle.rules.specs.TheWord.{mostKeys, mostBytes, noKey, letter, number}
 use Rattle.rules.specs.KeyRoles.{isKey, isSmall, isDigit}
 use Rattle.rules.specs.Speller.{Reading, stuckAt, reading, read, fault}
 use Rattle.rules.specs.declared.Word.{Word}
@@ -174,9 +174,24 @@ heldFaults w =
 abbrev pub toneAndModeFaults : Word → List Bool
 toneAndModeFaults w = ltb dot (w .tone) ∷ wrongMode (w .mode) ∷ []
 
--- 1.23 Refusal 8: a record with any of these faults is out of range. It returns 0.
+-- 1.23 Refusal 8, by the places of keys: that of a key that appended or shaped a letter in use, or set the tone, is not
+-- below the number of keys typed. No key may have shaped a letter or set the tone; each letter was appended by one.
+abbrev pub isPlace : ℕ → ℕ → Bool
+isPlace typed p = ltb p typed
+
+abbrev pub isPlaceOrNone : ℕ → ℕ → Bool
+isPlaceOrNone typed p = eqb p noKey || isPlace typed p
+
+abbrev pub placeFaults : Word → List Bool
+placeFaults w =
+    not (all (isPlace (w .typed)) (take (w .count) (w .«appended_by»))) ∷
+    not (all (isPlaceOrNone (w .typed)) (take (w .count) (w .«shaped_by»))) ∷
+    not (isPlaceOrNone (w .typed) (w .«toned_by»)) ∷
+    []
+
+-- 1.24 Refusal 8: a record with any of these faults is out of range. It returns 0.
 abbrev pub rangeFaults : Word → List Bool
-rangeFaults w = countFaults w ++ (heldFaults w ++ toneAndModeFaults w)
+rangeFaults w = countFaults w ++ (heldFaults w ++ (toneAndModeFaults w ++ placeFaults w))
 
 unfoldable pub outOfRange : Word → Bool
 outOfRange w = any (rangeFaults w)
@@ -219,12 +234,12 @@ firstRow (r ∷ rs) = elim (r .when) [ true ↦ some (record { number = r .numbe
 unfoldable pub refusal : Call → Option Refusal
 refusal c = firstRow (table c)
 
--- 1.24 A refusal is of the first row that holds when the row holds and no earlier one does.
+-- 1.25 A refusal is of the first row that holds when the row holds and no earlier one does.
 pub data FirstOf : List TableRow → Refusal → Type 0 where
   this-row : {r : TableRow} {rs : List TableRow} → T (r .when) → FirstOf (r ∷ rs) (record { number = r .number; value = r .returned })
   later-row : {r : TableRow} {rs : List TableRow} {x : Refusal} → T (not (r .when)) → FirstOf rs x → FirstOf (r ∷ rs) x
 
--- 1.25 Nothing is refused when no row holds.
+-- 1.26 Nothing is refused when no row holds.
 pub data NoneHolds : List TableRow → Type 0 where
   no-rows : NoneHolds []
   not-this : {r : TableRow} {rs : List TableRow} → T (not (r .when)) → NoneHolds rs → NoneHolds (r ∷ rs)

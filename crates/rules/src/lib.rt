@@ -8,12 +8,17 @@ ghost use Rattle.rules.specs.KeyRoles.{shaped};
 
 // A word: its mode, its letters, one tone for all of them, the closed mark, the keys typed and the counts of what they did.
 // A letter is one number: its base, 256 times its shape, and 2048 more for a capital.
+// Beside each letter stand the places among the keys, from 0, of the key that appended it and of the last that shaped it, and
+// beside the tone that of the last key that set it; NO_KEY where there is none.
 // Every field is public, so any record can be handed in; what is out of range is refused (refusal 8).
 pub struct Word {
     pub mode: u8,
     pub letters: [u16; Word::KEYS],
+    pub appended_by: [u8; Word::KEYS],
+    pub shaped_by: [u8; Word::KEYS],
     pub count: u8,
     pub tone: u8,
+    pub toned_by: u8,
     pub closed: bool,
     pub keys: [u8; Word::KEYS],
     pub typed: u8,
@@ -30,6 +35,9 @@ impl Word {
     pub const TELEX: u8 = 0;
 
     pub const VNI: u8 = 1;
+
+    // No place of a key: no key shaped the letter, or none set the tone.
+    pub const NO_KEY: u8 = 255;
 
     // A new Telex word.
     pub fn telex() -> Word
@@ -51,8 +59,11 @@ impl Word {
         Word {
             mode: mode,
             letters: [0; Word::KEYS],
+            appended_by: [0; Word::KEYS],
+            shaped_by: [0; Word::KEYS],
             count: 0,
             tone: NO_TONE,
+            toned_by: Word::NO_KEY,
             closed: false,
             keys: [0; Word::KEYS],
             typed: 0,
@@ -159,6 +170,13 @@ pub enum Act {
     Shape(u8),
     Stroke,
     Clear,
+}
+
+// The letters that a key put a shape on or took it off: none, one, or one and the next.
+pub enum Touched {
+    NoLetter,
+    OneLetter(usize),
+    TwoLetters(usize),
 }
 
 pub enum Place {

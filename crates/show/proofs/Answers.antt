@@ -1,6 +1,6 @@
 -- The answers of text and of show by their tests: refused, or the text put into the output.
 use mathlib.Core.Path.{_≡_, sym, ap, _∙_}
-use mathlib.Core.Bool.{true, false}
+use mathlib.Core.Bool.{Bool, true, false}
 use mathlib.Core.List.{List, [], map}
 use Prim.Native.Nat.{ℕ, _-_, _≤_, _<_}
 use native.Mathlib.Omega.{arith}
@@ -64,18 +64,25 @@ put-so ns t out old buffer n few room many b =
     let m : length (roomText ns t old) ≡ n - 0 = omega arith in
     ap (λ (l : List ℕ). put l out) (ap (take (n - 0)) b ∙ read-front (roomText ns t old) old (n - 0) m ∙ sym (in-room ns t old few room)) ∙ sym (few-enough ns t out few)
 
-module _ (w : Word) (out : List ℕ) where
-  pub refused : outOfRange w ≡ true → show w out ≡ record { answer = Refused (record { number = 8; value = 0 }); output = out }
+-- of a word, by what is answered on its range
+module _ (w : Word) (out : List ℕ) {r : Bool} (asked : r ≡ outOfRange w) where
+  pub refused : r ≡ true → show w out ≡ record { answer = Refused (record { number = 8; value = 0 }); output = out }
   unfolding show refusal
-  refused e = simp e
+  refused e = rw (sym asked, e)
 
-  module _ (e : outOfRange w ≡ false) where
+  module _ (e : r ≡ false) where
+    in-range : outOfRange w ≡ false
+    in-range = sym asked ∙ e
+
     put-in : show w out ≡ put (shown (wordOf w .state)) out
     unfolding show put refusal
-    put-in = rw e
+    put-in = rw in-range
+
+    pub few : w .count ≤ mostKeys
+    few = few-letters w in-range
 
     pub shown-so : textOut (take (w .count - 0) (w .letters)) (w .tone) out ≡ show w out
     shown-so =
         let m : w .count - 0 ≡ w .count = omega arith in
-        let few : length (take (w .count) (w .letters)) ≤ mostKeys = simp length-take (omega (arith, few-letters w e)) in
-        ap (λ (n : ℕ). textOut (take n (w .letters)) (w .tone) out) m ∙ few-enough (take (w .count) (w .letters)) (w .tone) out few ∙ ap (λ (l : List ℕ). put l out) (text-of w e) ∙ sym put-in
+        let short : length (take (w .count) (w .letters)) ≤ mostKeys = simp length-take (omega (arith, few)) in
+        ap (λ (n : ℕ). textOut (take n (w .letters)) (w .tone) out) m ∙ few-enough (take (w .count) (w .letters)) (w .tone) out short ∙ ap (λ (l : List ℕ). put l out) (text-of w in-range) ∙ sym put-in

@@ -8,7 +8,9 @@ ghost use Rattle.rules.specs.WhatComesBack.{show as showOf};
 ghost use mathlib.Core.List.{map};
 ghost use Rattle.rules.specs.TonePlace.{tonePlace};
 ghost use Rattle.letters.specs.Writing.{bytesIf, letterBytes};
+ghost use Rattle.records.specs.Numbers.{wordIn};
 ghost use Rattle.show.specs.Filling.{toneIf, tonedAt, textFrom, roomText, textOut};
+use records::Numbers;
 use rules::NO_TONE;
 use rules::Place;
 use rules::Refusal;
@@ -124,17 +126,46 @@ pub fn text(letters: &[u16], tone: u8, out: &mut [u8]) -> WriteAnswer
     output::write(&made[0..needed], out)
 }
 
-// The word as text at the front of the output. Refusals: 8, then 4 with the bytes needed; the output is then as it was.
-pub fn show(w: Word, out: &mut [u8]) -> WriteAnswer
-    ensures { λ r. ⌜ (r ≡ showOf w (now (out .entry)) .answer) × (now (out .exit) ≡ showOf w (now (out .entry)) .output) ⌝ }
+// The text of a word whose arrays are lent, at the front of the output. Refusals: 8, then 4 with the bytes needed; the output is then as it was.
+pub fn show_in(
+    letters: &[u16; Word::KEYS],
+    appended_by: &[u8; Word::KEYS],
+    shaped_by: &[u8; Word::KEYS],
+    keys: &[u8; Word::KEYS],
+    toned_by: u8,
+    mode: u8,
+    n: Numbers,
+    out: &mut [u8],
+) -> WriteAnswer
+    ensures { λ r. ⌜ (r ≡ showOf (wordIn mode (now (letters .entry)) (now («appended_by» .entry)) (now («shaped_by» .entry)) (now (keys .entry)) «toned_by» n) (now (out .entry)) .answer) × (now (out .exit) ≡ showOf (wordIn mode (now (letters .entry)) (now («appended_by» .entry)) (now («shaped_by» .entry)) (now (keys .entry)) «toned_by» n) (now (out .entry)) .output) ⌝ }
 {
-    if records::out_of_range(w) {
+    if records::lent_out_of_range(letters, appended_by, shaped_by, keys, toned_by, mode, n) {
         return WriteAnswer::Refused(Refusal {
             number: 8,
             value: 0,
         });
     }
+    let count = n.count as usize;
+    let held = &letters[..];
+    text(&held[0..count], n.tone, out)
+}
+
+// The same of a record. Its arrays are lent.
+pub fn show(w: Word, out: &mut [u8]) -> WriteAnswer
+    ensures { λ r. ⌜ (r ≡ showOf w (now (out .entry)) .answer) × (now (out .exit) ≡ showOf w (now (out .entry)) .output) ⌝ }
+{
     let letters = w.letters;
-    let count = w.count as usize;
-    text(&letters[0..count], w.tone, out)
+    let appended_by = w.appended_by;
+    let shaped_by = w.shaped_by;
+    let keys = w.keys;
+    show_in(
+        &letters,
+        &appended_by,
+        &shaped_by,
+        &keys,
+        w.toned_by,
+        w.mode,
+        records::numbers_of(w),
+        out,
+    )
 }

@@ -8,3 +8,4 @@ pub mod Tries
 pub mod Rulings
 pub mod Steps
 pub mod One
+pub mod KeysPut

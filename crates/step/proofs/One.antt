@@ -19,6 +19,14 @@ step-one κs a r r′ e e′ p p′ = p ∙ sym p′
 abbrev given : Step → StepIn
 given s = record { answer = s .answer; numbers = numbersOf (s .word) }
 
-pub step-in-one : (κs : Lfts 2) (a : Args step-in.signature κs) (r r′ : Res step-in.signature κs) (e e′ : AtExit step-in.ended κs) → step-in-reads.Post κs a r e → step-in-reads.Post κs a r′ e′ →
-    (r ≡ r′) × (now (e .0) ≡ now (e′ .0)) × (now (e .1 .0) ≡ now (e′ .1 .0))
-step-in-one κs a r r′ e e′ p p′ = let q = p ∙ sym p′ in (ap given q, ap (λ (s : Step). s .word .letters) q, ap (λ (s : Step). s .word .keys) q)
+pub step-in-one : (κs : Lfts 5) (a : Args step-in.signature κs) (r r′ : Res step-in.signature κs) (e e′ : AtExit step-in.ended κs) → step-in-reads.Post κs a r e → step-in-reads.Post κs a r′ e′ →
+    (r ≡ r′) × (now (e .0) ≡ now (e′ .0)) × (now (e .1 .0) ≡ now (e′ .1 .0)) × (now (e .1 .1 .0) ≡ now (e′ .1 .1 .0)) × (now (e .1 .1 .1 .0) ≡ now (e′ .1 .1 .1 .0)) × (now (e .1 .1 .1 .1 .0) ≡ now (e′ .1 .1 .1 .1 .0))
+step-in-one κs a r r′ e e′ p p′ =
+    let q = p ∙ sym p′ in (
+      ap given q,
+      ap (λ (s : Step). s .word .letters) q,
+      ap (λ (s : Step). s .word .«appended_by») q,
+      ap (λ (s : Step). s .word .«shaped_by») q,
+      ap (λ (s : Step). s .word .keys) q,
+      ap (λ (s : Step). s .word .«toned_by») q,
+    )

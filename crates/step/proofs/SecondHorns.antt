@@ -10,7 +10,9 @@ use lib.ListN.{take, drop, set, getD, length-append, length-map}
 use Rattle.rules.specs.Letters.{Letter, Letters, plain, horn, characters}
 use Rattle.rules.specs.Refusals.{all}
 use Rattle.rules.specs.TheWord.{State, appended, letter, number, atFront}
-use Rattle.rules.specs.KeyRoles.{isCapital, lowerIf, lower, letterOfKey, roleIn, telexRoles, vniRoles, role, shaped, awaitsSecondHorn, asksSecondHorn, takesSecondHorn, hornOnU, hornOnUIf, append}
+use Rattle.rules.specs.KeyRoles.{isCapital, lowerIf, lower, letterOfKey, roleIn, telexRoles, vniRoles, role, shaped, awaitsSecondHorn, asksSecondHorn, takesSecondHorn, hornOnU, hornOnUIf, placeOfU, touchedIf, isAdded}
+use Rattle.rules.specs.declared.Touched.{Touched}
+use Rattle.rules.specs.declared.Touched.the-variants.{NoLetter, OneLetter}
 use Rattle.rules.specs.declared.Role.{Role}
 use Rattle.rules.specs.declared.Role.the-variants.{ToneRole, ShapeRole, StrokeRole, NoRole}
 use Rattle.rules.proofs.Bools.{and-false}
@@ -18,10 +20,10 @@ use Rattle.rules.proofs.Tests.{of-elem}
 use Rattle.rules.proofs.Numbers.{of-number}
 use Rattle.rules.proofs.StaysInRange.{of-role}
 use Rattle.rules.proofs.Records.{front-front}
-use Rattle.targets.proofs.Waits.{u-and-o, horn-on-u}
+use Rattle.targets.proofs.Waits.{u-and-o, u-before-o, horn-on-u}
 use Rattle.step.specs.declared.Rest.{Rest}
 use Rattle.step.specs.declared.Done as Answer
-use Rattle.step.specs.LentLetters.{LettersInFront, RoomForLetter, NoSecondHorn, DoesAsRuled, stateIn, appendedPlainly, withSecondHorn, unlessClosedRole}
+use Rattle.step.specs.LentLetters.{LettersInFront, RoomForLetter, NoSecondHorn, DoesAsRuled, stateIn, appendedPlainly, secondHornOn, withSecondHorn, unlessClosedRole}
 use Rattle.step.proofs.Arrays.{reshapedAt, is-front, stored, read-stored, still-given}
 use Rattle.step.proofs.States.{letters-read, same-array}
 
@@ -40,6 +42,9 @@ module _ (l : List ℕ) (rest : Rest) (given : LettersInFront l (rest .count)) w
 
     pub u-inside : (2 ≤ rest .count) × (u < rest .count)
     u-inside = let two : 2 ≤ rest .count = omega (arith, u-and-o word h, letters-read l rest given) in (two, omega (arith, two))
+
+    u-stands : placeOfU word ≡ u
+    u-stands = u-before-o word h u (letters-read l rest given ∙ omega (arith, u-inside .0))
 
     horn-stored : atFront (map number (hornOnU word)) l ≡ reshapedAt l u horn
     horn-stored =
@@ -97,12 +102,17 @@ module _ (l : List ℕ) (rest : Rest) where
 
     -- left as it was, or put on
     module _ (given : LettersInFront l (rest .count)) where
-      pub left-as-it-was : takes ≡ false → l ≡ withSecondHorn l rest k
-      left-as-it-was e = sym (ap (λ (b : Bool). atFront (map number (hornOnUIf b (stateIn l rest .letters))) l) e ∙ same-array l rest given)
+      pub left-as-it-was : takes ≡ false → (NoLetter ≡ secondHornOn l rest k) × (l ≡ withSecondHorn l rest k)
+      left-as-it-was e = (
+        sym (ap (λ (b : Bool). touchedIf b (stateIn l rest .letters)) e),
+        sym (ap (λ (b : Bool). atFront (map number (hornOnUIf b (stateIn l rest .letters))) l) e ∙ same-array l rest given),
+      )
 
-      pub put-on : takes ≡ true → (v : ℕ) → v ≡ number (shaped horn (letter (getD l (rest .count - 2) 0))) → set l (rest .count - 2) v ≡ withSecondHorn l rest k
-      put-on e v f =
-          ap (set l (rest .count - 2)) f ∙ sym (horn-stored l rest given (waiting e)) ∙ sym (ap (λ (b : Bool). atFront (map number (hornOnUIf b (stateIn l rest .letters))) l) e)
+      pub put-on : takes ≡ true → (v : ℕ) → v ≡ number (shaped horn (letter (getD l (rest .count - 2) 0))) → (OneLetter (rest .count - 2) ≡ secondHornOn l rest k) × (set l (rest .count - 2) v ≡ withSecondHorn l rest k)
+      put-on e v f = (
+        ap (λ (i : ℕ). OneLetter i) (sym (u-stands l rest given (waiting e))) ∙ sym (ap (λ (b : Bool). touchedIf b (stateIn l rest .letters)) e),
+        ap (set l (rest .count - 2)) f ∙ sym (horn-stored l rest given (waiting e)) ∙ sym (ap (λ (b : Bool). atFront (map number (hornOnUIf b (stateIn l rest .letters))) l) e),
+      )
 
 -- the letter of a key, by its number
 lower-small : (k : ℕ) → k < 256 → lower k < 256
@@ -117,9 +127,9 @@ by-base k h e f g t =
     ap (λ (x : Letter). asksSecondHorn (x .base)) (sym (of-number (lower k) plain (isCapital k) (lower-small k h) (lit< tt)) ∙ ap letter (sym e)) ∙ ap (λ (b : ℕ). asksSecondHorn b) (sym f) ∙ sym g ∙ t
 
 -- another letter puts none on
-pub plainly : (s : State) (k : Letter) → asksSecondHorn (k .base) ≡ false → append s k ≡ appendedPlainly s k
+pub plainly : (s : State) (k : Letter) → asksSecondHorn (k .base) ≡ false → isAdded s k ≡ appended NoLetter (appendedPlainly s k)
 plainly s k r =
-    ap (λ (b : Bool). record { letters = hornOnUIf b (s .letters) ++ (k ∷ []); tone = s .tone; closed = s .closed })
+    ap (λ (b : Bool). appended (touchedIf b (s .letters)) (record { letters = hornOnUIf b (s .letters) ++ (k ∷ []); tone = s .tone; closed = s .closed }))
     (ap (λ (b : Bool). not (s .closed) && (awaitsSecondHorn (s .letters) && b)) r ∙ ap (λ (b : Bool). not (s .closed) && b) (sym (and-false (awaitsSecondHorn (s .letters)))) ∙ sym (and-false (not (s .closed))))
 
 -- nor a key that has a role
@@ -154,7 +164,7 @@ by-its-role closed mode key {q} {r} e g n = go (asksSecondHorn (lower key)) (no-
     go false h = refl
 
 -- a key without a role, once the horn is put on
-module _ (l : List ℕ) (rest : Rest) (k : Letter) (m : List ℕ) (p : m ≡ withSecondHorn l rest k) where
+module _ (l : List ℕ) (rest : Rest) (k : Letter) (g : Touched) (m : List ℕ) (told : (g ≡ secondHornOn l rest k) × (m ≡ withSecondHorn l rest k)) where
   abbrev joined : Letters
   joined = hornOnUIf (takesSecondHorn (stateIn l rest) k) (stateIn l rest .letters)
 
@@ -162,11 +172,12 @@ module _ (l : List ℕ) (rest : Rest) (k : Letter) (m : List ℕ) (p : m ≡ wit
   after given = second-horn l rest given (takesSecondHorn (stateIn l rest) k) (waiting l rest k)
 
   pub room-then : RoomForLetter l (rest .count) → RoomForLetter m (rest .count)
-  room-then room = subst (λ (a : List ℕ). RoomForLetter a (rest .count)) (sym p) (record { given = after (room .given) .given; room = room .room })
+  room-then room = subst (λ (a : List ℕ). RoomForLetter a (rest .count)) (sym (told .1)) (record { given = after (room .given) .given; room = room .room })
 
-  pub horn-then : RoomForLetter l (rest .count) → {r : Answer.Done} {m′ : List ℕ} → DoesAsRuled (appended (appendedPlainly (stateIn m rest) k)) m r m′ → DoesAsRuled (appended (append (stateIn l rest) k)) l r m′
+  pub horn-then : RoomForLetter l (rest .count) → {r : Answer.Done} {m′ : List ℕ} → DoesAsRuled (appended g (appendedPlainly (stateIn m rest) k)) m r m′ → DoesAsRuled (isAdded (stateIn l rest) k) l r m′
   horn-then room {r} {m′} d =
       let front = atFront (map number joined) l in
-      let q = subst (λ (a : List ℕ). DoesAsRuled (appended (appendedPlainly (stateIn a rest) k)) a r m′) p d in
-      let s = subst (λ (w : Letters). DoesAsRuled (appended (record { letters = w ++ (k ∷ []); tone = rest .tone; closed = rest .closed })) front r m′) (after (room .given) .read) q in
+      let on = secondHornOn l rest k in
+      let q = subst (λ (a : List ℕ). DoesAsRuled (appended on (appendedPlainly (stateIn a rest) k)) a r m′) (told .1) (subst (λ (x : Touched). DoesAsRuled (appended x (appendedPlainly (stateIn m rest) k)) m r m′) (told .0) d) in
+      let s = subst (λ (w : Letters). DoesAsRuled (appended on (record { letters = w ++ (k ∷ []); tone = rest .tone; closed = rest .closed })) front r m′) (after (room .given) .read) q in
       record { told = s .told; left = s .left ∙ front-front (map number (joined ++ (k ∷ []))) (map number joined) l (simp (length-map, length-append) (omega arith)) }

@@ -14,6 +14,8 @@ use Rattle.rules.specs.TheWord.{State, Done, acted, undone, appended, stateOf, 
 use Rattle.rules.specs.KeyRoles as Rules
 use Rattle.rules.specs.KeyRoles.{close, editDoes}
 use Rattle.rules.specs.declared.Act.{Act}
+use Rattle.rules.specs.declared.Touched.{Touched}
+use Rattle.rules.specs.declared.Touched.the-variants.{NoLetter, OneLetter, TwoLetters}
 use Rattle.rules.specs.declared.Outcome.{Outcome}
 use Rattle.rules.specs.declared.Outcome.the-variants.{Acted, Undone, Appended}
 use Rattle.rules.proofs.Edits.{Alike, Good, good-none, good-off, good, length-alike}
@@ -21,12 +23,13 @@ use Rattle.rules.specs.LettersOfAMode.{AllFine}
 use Rattle.rules.proofs.Numbers.{fine-alike}
 use Rattle.rules.proofs.Records.{front-front}
 use Rattle.rules.proofs.Outcome as Outcomes
+use Rattle.rules.proofs.Touched as Touches
 use Rattle.step.specs.declared.Edit.{Edit}
 use Rattle.step.specs.declared.Edit.the-variants.{Nothing, Off, Change}
 use Rattle.step.specs.declared.Rest.{Rest}
 use Rattle.step.specs.declared.Counts.{Counts}
 use Rattle.step.specs.declared.Done as Answer
-use Rattle.step.specs.LentLetters.{LettersInFront, RoomForLetter, LeavesState, DoesAsRuled, Edits, kindOf, editedIn, stateIn, appendedPlainly, afterEdit, restWithTone, countedIn}
+use Rattle.step.specs.LentLetters.{LettersInFront, RoomForLetter, LeavesState, DoesAsRuled, Edits, kindOf, editedIn, stateIn, appendedPlainly, afterEdit, restWithTone, countedIn, shaperOf, byThen}
 use Rattle.step.proofs.Edit as Kinds
 use Rattle.step.proofs.Arrays.{within, added, front-letters, front-canonical}
 
@@ -60,17 +63,17 @@ module _ (l : List ℕ) (rest : Rest) (room : RoomForLetter l (rest .count)) whe
       }
 
 -- what is left, with its outcome
-pub as-acted : (a : Act) {s : State} {l : List ℕ} {r : Rest} {m : List ℕ} → LeavesState s l r m → DoesAsRuled (acted a s) l (record { outcome = Acted a; rest = r }) m
-as-acted a p = record { told = ap (λ (x : Rest). record { outcome = Acted a; rest = x }) (p .beside); left = p .left }
+pub as-acted : (a : Act) (g : Touched) {s : State} {l : List ℕ} {r : Rest} {m : List ℕ} → LeavesState s l r m → DoesAsRuled (acted a g s) l (record { outcome = Acted a; touched = g; rest = r }) m
+as-acted a g p = record { told = ap (λ (x : Rest). record { outcome = Acted a; touched = g; rest = x }) (p .beside); left = p .left }
 
-pub as-appended : {s : State} {l : List ℕ} {r : Rest} {m : List ℕ} → LeavesState s l r m → DoesAsRuled (appended s) l (record { outcome = Appended; rest = r }) m
-as-appended p = record { told = ap (λ (x : Rest). record { outcome = Appended; rest = x }) (p .beside); left = p .left }
+pub as-appended : (g : Touched) {s : State} {l : List ℕ} {r : Rest} {m : List ℕ} → LeavesState s l r m → DoesAsRuled (appended g s) l (record { outcome = Appended; touched = g; rest = r }) m
+as-appended g p = record { told = ap (λ (x : Rest). record { outcome = Appended; touched = g; rest = x }) (p .beside); left = p .left }
 
 abbrev closed : Rest → Rest
 closed r = record { count = r .count; tone = r .tone; closed = true }
 
-pub as-undone : {s : State} {l : List ℕ} {r : Rest} {m : List ℕ} → LeavesState s l r m → DoesAsRuled (undone (close s)) l (record { outcome = Undone; rest = closed r }) m
-as-undone p = record { told = ap (λ (x : Rest). record { outcome = Undone; rest = closed x }) (p .beside); left = p .left }
+pub as-undone : (g : Touched) {s : State} {l : List ℕ} {r : Rest} {m : List ℕ} → LeavesState s l r m → DoesAsRuled (undone g (close s)) l (record { outcome = Undone; touched = g; rest = closed r }) m
+as-undone g p = record { told = ap (λ (x : Rest). record { outcome = Undone; touched = g; rest = closed x }) (p .beside); left = p .left }
 
 pub as-ruled : {d e : Done} {l : List ℕ} {r : Answer.Done} {m : List ℕ} → d ≡ e → DoesAsRuled e l r m → DoesAsRuled d l r m
 as-ruled {d} {e} {l} {r} {m} p q = subst (λ (x : Done). DoesAsRuled x l r m) (sym p) q
@@ -107,8 +110,8 @@ module _ (mode : ℕ) (l : List ℕ) (rest : Rest) (room : RoomForLetter l (rest
     where
       go : {d : Rules.Edit} → Good (stateIn l rest .letters) d → RoomForLetter (editedIn l d) (rest .count)
       go good-none = room
-      go (good-off c {w = ws} a) = room-for ws a
-      go (good c {w = ws} a q h) = room-for ws a
+      go (good-off c {w = ws} a y) = room-for ws a
+      go (good c {w = ws} a y q h) = room-for ws a
 
   pub edit-then : {d : Rules.Edit} {e : Edit} {m m′ : List ℕ} {r : Answer.Done} (k : Letter) → Good (stateIn l rest .letters) d → Edits d l e m → DoesAsRuled (afterEdit e (stateIn m rest) k) m r m′ → DoesAsRuled (editDoes d (stateIn l rest) k) l r m′
   edit-then {d = d′} {m = m} {m′ = m′} {r = r} k g p q =
@@ -116,8 +119,8 @@ module _ (mode : ℕ) (l : List ℕ) (rest : Rest) (room : RoomForLetter l (rest
     where
       go : {d : Rules.Edit} → Good (stateIn l rest .letters) d → DoesAsRuled (afterEdit (kindOf d) (stateIn (editedIn l d) rest) k) (editedIn l d) r m′ → DoesAsRuled (editDoes d (stateIn l rest) k) l r m′
       go good-none x = x
-      go (good-off c {w = ws} a) x = over ws a (λ s. undone (Rules.undo s k)) (simp length-append (omega arith)) x
-      go (good c {a = act} {w = ws} a q h) x = over ws a (acted act) (omega arith) x
+      go (good-off c {g = g} {w = ws} a y) x = over ws a (λ s. undone g (Rules.undo s k)) (simp length-append (omega arith)) x
+      go (good c {a = act} {g = g} {w = ws} a y q h) x = over ws a (acted act g) (omega arith) x
 
 two-no : {m n k : ℕ} → (m ≡ n → ⊥) → (m ≡ k → ⊥) → (m ≡ n) ⊎ (m ≡ k) → ⊥
 two-no f g (inl e) = f e
@@ -126,11 +129,23 @@ two-no f g (inr e) = g e
 -- an edit that neither takes a mark off nor changes the letters is none
 pub no-edit : (e : Edit) → OneOf (0 ∷ 2 ∷ []) (tagOf Kinds.the-type e) → OneOf (0 ∷ 1 ∷ []) (tagOf Kinds.the-type e) → e ≡ Nothing
 no-edit Nothing p q = refl
-no-edit Off p q = absurd (two-no (λ e. omega arith) (λ e. omega arith) p)
-no-edit (Change a) p q = absurd (two-no (λ e. omega arith) (λ e. omega arith) q)
+no-edit (Off g) p q = absurd (two-no (λ e. omega arith) (λ e. omega arith) p)
+no-edit (Change a g) p q = absurd (two-no (λ e. omega arith) (λ e. omega arith) q)
+
+-- a key that touched neither one letter nor two touched none
+pub no-letter : (g : Touched) → OneOf (0 ∷ 2 ∷ []) (tagOf Touches.the-type g) → OneOf (0 ∷ 1 ∷ []) (tagOf Touches.the-type g) → g ≡ NoLetter
+no-letter NoLetter p q = refl
+no-letter (OneLetter i) p q = absurd (two-no (λ e. omega arith) (λ e. omega arith) p)
+no-letter (TwoLetters i) p q = absurd (two-no (λ e. omega arith) (λ e. omega arith) q)
 
 -- an outcome that is neither acted nor undone is appended
 pub neither : (n : Counts) (o : Outcome) → OneOf (1 ∷ 2 ∷ []) (tagOf Outcomes.the-type o) → OneOf (0 ∷ 2 ∷ []) (tagOf Outcomes.the-type o) → countedIn n Appended ≡ countedIn n o
 neither n (Acted a) p q = absurd (two-no (λ e. omega arith) (λ e. omega arith) p)
 neither n Undone p q = absurd (two-no (λ e. omega arith) (λ e. omega arith) q)
 neither n Appended p q = refl
+
+-- a key that was neither appended nor undid acted
+pub acts : (o : Outcome) (l : List ℕ) (count here : ℕ) → OneOf (0 ∷ 1 ∷ []) (tagOf Outcomes.the-type o) → OneOf (0 ∷ 2 ∷ []) (tagOf Outcomes.the-type o) → (here ≡ shaperOf o here) × (l ≡ byThen l count here o)
+acts (Acted a) l count here p q = (refl, refl)
+acts Undone l count here p q = absurd (two-no (λ e. omega arith) (λ e. omega arith) q)
+acts Appended l count here p q = absurd (two-no (λ e. omega arith) (λ e. omega arith) p)

@@ -15,6 +15,8 @@ use Rattle.rules.specs.TheWord.{letter, number, atFront}
 use Rattle.rules.specs.KeyRoles as Rules
 use Rattle.rules.specs.KeyRoles.{shaped, target, change, onlyIf, asked}
 use Rattle.rules.specs.declared.Act.the-variants.{Shape}
+use Rattle.rules.specs.declared.Touched.{Touched}
+use Rattle.rules.specs.declared.Touched.the-variants.{OneLetter, TwoLetters}
 use Rattle.rules.specs.declared.Place.the-variants.{At}
 use Rattle.targets.specs.Aims.{reshape, shapeAt, oneAt, bothReshaped, pairAt}
 use Rattle.step.specs.declared.Edit.the-variants.{Nothing, Off, Change}
@@ -22,18 +24,18 @@ use Rattle.step.specs.LentLetters.{LettersInFront, LetterThere, Edits, p
 use Rattle.step.proofs.Arrays.{reshapedAt, is-front, within, shape-at, length-reshape, stored, read-stored, still-given}
 
 -- a mark taken off
-off-there : (l : List ℕ) (kind : ℕ) (v w : Letters) (on : List ℕ) {b : Bool} → b ≡ true → on ≡ atFront (map number v) l → Edits (asked kind (target b v w)) l Off on
-off-there l kind v w on e s = subst (λ (b : Bool). Edits (asked kind (target b v w)) l Off on) (sym e) (record { told = refl; left = s })
+off-there : (l : List ℕ) (kind : ℕ) (g : Touched) (v w : Letters) (on : List ℕ) {b : Bool} → b ≡ true → on ≡ atFront (map number v) l → Edits (asked kind (target b g v w)) l (Off g) on
+off-there l kind g v w on e s = subst (λ (b : Bool). Edits (asked kind (target b g v w)) l (Off g) on) (sym e) (record { told = refl; left = s })
 
 -- a mark put on: asked about, and kept or put back
-module _ (l on : List ℕ) (n kind : ℕ) (v w : Letters) {there : Bool} (e : there ≡ false) (r : map letter (take n on) ≡ w) {q : Bool} (p : q ≡ admitted (map letter (take (n - 0) (drop 0 on)))) where
-  ruled : {b : Bool} → q ≡ b → asked kind (target there v w) ≡ onlyIf b (change (Shape kind) w)
-  ruled t = ap (λ (c : Bool). asked kind (target c v w)) e ∙ ap (λ (b : Bool). onlyIf b (change (Shape kind) w)) (ap admitted (sym r ∙ is-front on n) ∙ sym p ∙ t)
+module _ (l on : List ℕ) (n kind : ℕ) (g : Touched) (v w : Letters) {there : Bool} (e : there ≡ false) (r : map letter (take n on) ≡ w) {q : Bool} (p : q ≡ admitted (map letter (take (n - 0) (drop 0 on)))) where
+  ruled : {b : Bool} → q ≡ b → asked kind (target there g v w) ≡ onlyIf b (change (Shape kind) g w)
+  ruled t = ap (λ (c : Bool). asked kind (target c g v w)) e ∙ ap (λ (b : Bool). onlyIf b (change (Shape kind) g w)) (ap admitted (sym r ∙ is-front on n) ∙ sym p ∙ t)
 
-  stays : q ≡ true → on ≡ atFront (map number w) l → Edits (asked kind (target there v w)) l (Change (Shape kind)) on
-  stays t s = subst (λ (d : Rules.Edit). Edits d l (Change (Shape kind)) on) (sym (ruled t)) (record { told = refl; left = s })
+  stays : q ≡ true → on ≡ atFront (map number w) l → Edits (asked kind (target there g v w)) l (Change (Shape kind) g) on
+  stays t s = subst (λ (d : Rules.Edit). Edits d l (Change (Shape kind) g) on) (sym (ruled t)) (record { told = refl; left = s })
 
-  put-back : q ≡ false → (back : List ℕ) → back ≡ l → Edits (asked kind (target there v w)) l Nothing back
+  put-back : q ≡ false → (back : List ℕ) → back ≡ l → Edits (asked kind (target there g v w)) l Nothing back
   put-back t back s = subst (λ (d : Rules.Edit). Edits d l Nothing back) (sym (ruled t)) (record { told = refl; left = s })
 
 -- a letter in the place of which another shape is stored
@@ -46,9 +48,9 @@ module _ (l : List ℕ) (n i kind : ℕ) (aimed : LetterThere l n i kind) where
       shape-at (take n l) i (omega (arith, length-take-le n l (within l n (aimed .given)), aimed .inside)) ∙ ap (λ (k : ℕ). letter k .shape) (getD-take n l i 0 (aimed .inside))
 
   -- the mark is there already
-  pub taken-off : (v : ℕ) → v ≡ number (shaped plain (letter (getD l i 0))) → letter (getD l i 0) .shape ≡ kind → Edits (asked kind (oneAt kind (At i) (map letter (take n l)))) l Off (set l i v)
+  pub taken-off : (v : ℕ) → v ≡ number (shaped plain (letter (getD l i 0))) → letter (getD l i 0) .shape ≡ kind → Edits (asked kind (oneAt kind (At i) (map letter (take n l)))) l (Off (OneLetter i)) (set l i v)
   taken-off v e s =
-      off-there l kind (reshape i plain word) (reshape i kind word) (set l i v) (eq-eqb (shapeAt i word) kind (shape-there ∙ s))
+      off-there l kind (OneLetter i) (reshape i plain word) (reshape i kind word) (set l i v) (eq-eqb (shapeAt i word) kind (shape-there ∙ s))
       (ap (set l i) e ∙ stored l n (aimed .given) i plain (aimed .inside))
 
   -- it is not
@@ -62,11 +64,11 @@ module _ (l : List ℕ) (n i kind : ℕ) (aimed : LetterThere l n i kind) where
     read : map letter (take n (set l i v)) ≡ reshape i kind word
     read = ap (λ (m : List ℕ). map letter (take n m)) on ∙ read-stored l n (aimed .given) i kind (aimed .inside) (aimed .shape)
 
-    pub one-stays : q ≡ true → Edits (asked kind (oneAt kind (At i) (map letter (take n l)))) l (Change (Shape kind)) (set l i v)
-    one-stays t = stays l (set l i v) n kind (reshape i plain word) (reshape i kind word) not-there read p t (on ∙ stored l n (aimed .given) i kind (aimed .inside))
+    pub one-stays : q ≡ true → Edits (asked kind (oneAt kind (At i) (map letter (take n l)))) l (Change (Shape kind) (OneLetter i)) (set l i v)
+    one-stays t = stays l (set l i v) n kind (OneLetter i) (reshape i plain word) (reshape i kind word) not-there read p t (on ∙ stored l n (aimed .given) i kind (aimed .inside))
 
     pub one-back : q ≡ false → Edits (asked kind (oneAt kind (At i) (map letter (take n l)))) l Nothing (set (set l i v) i (getD l i 0))
-    one-back t = put-back l (set l i v) n kind (reshape i plain word) (reshape i kind word) not-there read p t _ (set-set l i v (getD l i 0) ∙ set-getD l i 0)
+    one-back t = put-back l (set l i v) n kind (OneLetter i) (reshape i plain word) (reshape i kind word) not-there read p t _ (set-set l i v (getD l i 0) ∙ set-getD l i 0)
 
 -- a place that the front covers
 same-behind : (new l : List ℕ) (i v : ℕ) → i < length new → atFront new (set l i v) ≡ atFront new l
@@ -143,8 +145,8 @@ module _ (l : List ℕ) (n i : ℕ) (aimed : LetterThere l n (i + 1) horn) where
   word-on = bothReshaped i horn (map letter (take n l))
 
   pub pair-off : (v x : ℕ) (on : List ℕ) → v ≡ number (shaped plain (letter (getD l i 0))) → x ≡ number (shaped plain (letter (getD l (i + 1) 0))) → on ≡ paired l i v x → shapes ≡ true →
-      Edits (asked horn (pairAt (At i) (map letter (take n l)))) l Off on
-  pair-off v x on e f o s = off-there l horn word-off word-on on (flag ∙ s) (o ∙ both-on l n i plain at-plain v x e f ∙ both-stored l n i plain at-plain)
+      Edits (asked horn (pairAt (At i) (map letter (take n l)))) l (Off (TwoLetters i)) on
+  pair-off v x on e f o s = off-there l horn (TwoLetters i) word-off word-on on (flag ∙ s) (o ∙ both-on l n i plain at-plain v x e f ∙ both-stored l n i plain at-plain)
 
   module _ (v x : ℕ) (on : List ℕ) (e : v ≡ number (shaped horn (letter (getD l i 0)))) (f : x ≡ number (shaped horn (letter (getD l (i + 1) 0)))) (o : on ≡ paired l i v x) (s : shapes ≡ false) {q : Bool} (p : q ≡ admitted (map letter (take (n - 0) (drop 0 on)))) where
     two : on ≡ reshapedAt (reshapedAt l i horn) (i + 1) horn
@@ -153,8 +155,8 @@ module _ (l : List ℕ) (n i : ℕ) (aimed : LetterThere l n (i + 1) horn) where
     two-read : map letter (take n on) ≡ word-on
     two-read = ap (λ (m : List ℕ). map letter (take n m)) two ∙ both-read l n i horn aimed
 
-    pub pair-stays : q ≡ true → Edits (asked horn (pairAt (At i) (map letter (take n l)))) l (Change (Shape horn)) on
-    pair-stays t = stays l on n horn word-off word-on (flag ∙ s) two-read p t (two ∙ both-stored l n i horn aimed)
+    pub pair-stays : q ≡ true → Edits (asked horn (pairAt (At i) (map letter (take n l)))) l (Change (Shape horn) (TwoLetters i)) on
+    pair-stays t = stays l on n horn (TwoLetters i) word-off word-on (flag ∙ s) two-read p t (two ∙ both-stored l n i horn aimed)
 
     pub pair-back : q ≡ false → (back : List ℕ) → back ≡ paired on i (getD l i 0) (getD l (i + 1) 0) → Edits (asked horn (pairAt (At i) (map letter (take n l)))) l Nothing back
-    pair-back t back h = put-back l on n horn word-off word-on (flag ∙ s) two-read p t back (h ∙ ap (λ (m : List ℕ). paired m i (getD l i 0) (getD l (i + 1) 0)) o ∙ paired-back l i v x)
+    pair-back t back h = put-back l on n horn (TwoLetters i) word-off word-on (flag ∙ s) two-read p t back (h ∙ ap (λ (m : List ℕ). paired m i (getD l i 0) (getD l (i + 1) 0)) o ∙ paired-back l i v x)

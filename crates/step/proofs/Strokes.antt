@@ -11,6 +11,7 @@ use Rattle.rules.specs.Letters.{Letter, Letters, plain, stroke, is, isNil}
 use Rattle.rules.specs.TakingApart.{admitted}
 use Rattle.rules.specs.TheWord.{letter, number, atFront}
 use Rattle.rules.specs.KeyRoles.{shaped, Edit, off, change, onlyIf, first, strokeEdit}
+use Rattle.rules.specs.declared.Touched.the-variants.{OneLetter}
 use Rattle.rules.specs.declared.Act.the-variants.{Stroke}
 use Rattle.targets.specs.Aims.{reshape}
 use Rattle.step.specs.declared.Edit.the-variants.{Nothing, Off, Change}
@@ -38,7 +39,7 @@ module _ (l : List ℕ) (n : ℕ) (given : LettersInFront l n) (some : 0 < n) wh
   word = map letter (take n l)
 
   abbrev struck : Bool → Bool → Edit
-  struck isĐ acts = first (onlyIf isĐ (off (reshape 0 plain word))) (onlyIf acts (change Stroke (reshape 0 stroke word)))
+  struck isĐ acts = first (onlyIf isĐ (off (OneLetter 0) (reshape 0 plain word))) (onlyIf acts (change Stroke (OneLetter 0) (reshape 0 stroke word)))
 
   abbrev acts : Bool
   acts = is x (dee plain) && (eqb n 1 || admitted word)
@@ -49,17 +50,17 @@ module _ (l : List ℕ) (n : ℕ) (given : LettersInFront l n) (some : 0 < n) wh
       split-is : FirstOf l n → strokeEdit word ≡ struck (is x (dee stroke)) acts
       split-is f =
           ap strokeEdit (f .split) ∙
-          ap (λ (b : Bool). first (onlyIf (is x (dee stroke)) (off (reshape 0 plain (x ∷ f .others)))) (onlyIf (is x (dee plain) && (b || admitted (x ∷ f .others))) (change Stroke (reshape 0 stroke (x ∷ f .others))))) (f .alone) ∙
-          ap (λ (w : Letters). first (onlyIf (is x (dee stroke)) (off (reshape 0 plain w))) (onlyIf (is x (dee plain) && (eqb n 1 || admitted w)) (change Stroke (reshape 0 stroke w)))) (sym (f .split))
+          ap (λ (b : Bool). first (onlyIf (is x (dee stroke)) (off (OneLetter 0) (reshape 0 plain (x ∷ f .others)))) (onlyIf (is x (dee plain) && (b || admitted (x ∷ f .others))) (change Stroke (OneLetter 0) (reshape 0 stroke (x ∷ f .others))))) (f .alone) ∙
+          ap (λ (w : Letters). first (onlyIf (is x (dee stroke)) (off (OneLetter 0) (reshape 0 plain w))) (onlyIf (is x (dee plain) && (eqb n 1 || admitted w)) (change Stroke (OneLetter 0) (reshape 0 stroke w)))) (sym (f .split))
 
   first-stored : (kind v : ℕ) → v ≡ number (shaped kind x) → set l 0 v ≡ atFront (map number (reshape 0 kind word)) l
   first-stored kind v e = ap (set l 0) e ∙ stored l n given 0 kind some
 
-  pub stroke-off : (v : ℕ) → v ≡ number (shaped plain x) → is x (dee stroke) ≡ true → Edits (strokeEdit word) l Off (set l 0 v)
-  stroke-off v e d = subst (λ (k : Edit). Edits k l Off (set l 0 v)) (sym (stroke-is d refl)) (record { told = refl; left = first-stored plain v e })
+  pub stroke-off : (v : ℕ) → v ≡ number (shaped plain x) → is x (dee stroke) ≡ true → Edits (strokeEdit word) l (Off (OneLetter 0)) (set l 0 v)
+  stroke-off v e d = subst (λ (k : Edit). Edits k l (Off (OneLetter 0)) (set l 0 v)) (sym (stroke-is d refl)) (record { told = refl; left = first-stored plain v e })
 
-  pub stroke-on : (v : ℕ) → v ≡ number (shaped stroke x) → is x (dee stroke) ≡ false → acts ≡ true → Edits (strokeEdit word) l (Change Stroke) (set l 0 v)
-  stroke-on v e d a = subst (λ (k : Edit). Edits k l (Change Stroke) (set l 0 v)) (sym (stroke-is d a)) (record { told = refl; left = first-stored stroke v e })
+  pub stroke-on : (v : ℕ) → v ≡ number (shaped stroke x) → is x (dee stroke) ≡ false → acts ≡ true → Edits (strokeEdit word) l (Change Stroke (OneLetter 0)) (set l 0 v)
+  stroke-on v e d a = subst (λ (k : Edit). Edits k l (Change Stroke (OneLetter 0)) (set l 0 v)) (sym (stroke-is d a)) (record { told = refl; left = first-stored stroke v e })
 
   pub stroke-none : is x (dee stroke) ≡ false → acts ≡ false → Edits (strokeEdit word) l Nothing l
   stroke-none d a = subst (λ (k : Edit). Edits k l Nothing l) (sym (stroke-is d a)) (record { told = refl; left = refl })

@@ -16,8 +16,8 @@ use Rattle.step.proofs.Edit.{the-type}
 -- no edit
 is-none : (e : Rules.Edit) → kindOf e ≡ Nothing → e ≡ nothing
 is-none nothing p = refl
-is-none (off w) p = let z : _≡_ {A = ℕ} 0 1 = cc in absurd (omega arith)
-is-none (change a w) p = let z : _≡_ {A = ℕ} 0 1 = cc in absurd (omega arith)
+is-none (off g w) p = let z : _≡_ {A = ℕ} 0 1 = cc in absurd (omega arith)
+is-none (change a g w) p = let z : _≡_ {A = ℕ} 0 1 = cc in absurd (omega arith)
 
 module _ {e : Rules.Edit} {l : List ℕ} {r : Edit} {m : List ℕ} (tried : Edits e l r m) where
   none : r ≡ Nothing → e ≡ nothing
@@ -37,5 +37,5 @@ not-none (inr z) = omega arith
 
 pub only-first : (e f : Rules.Edit) {l : List ℕ} {r : Edit} {m : List ℕ} → Edits e l r m → OneOf (1 ∷ 2 ∷ []) (tagOf the-type r) → Edits (first e f) l r m
 only-first nothing f p o = absurd (not-none (subst (λ (k : Edit). OneOf (1 ∷ 2 ∷ []) (tagOf the-type k)) (p .told) o))
-only-first (off w) f p o = p
-only-first (change a w) f p o = p
+only-first (off g w) f p o = p
+only-first (change a g w) f p o = p

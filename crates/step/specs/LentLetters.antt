@@ -4,14 +4,18 @@ use mathlib.Core.Bool.{Bool, true, false}
 use mathlib.Core.List.{List, [], _∷_, _++_, map}
 use Prim.Native.Nat.{ℕ, _+_, _≤_, _<_}
 use Prim.Native.Char.{code}
+use lib.Dec.{eqb}
 use lib.ListN.{length, take, set}
-use Rattle.rules.specs.Letters.{Letter, small}
-use Rattle.rules.specs.TheWord.{State, Done, acted, undone, appended, stateOf, outcomeOf, oneMore, isActed, isUndone, isAppended, mostKeys, letter, number, atFront}
+use Rattle.rules.specs.Letters.{Letter, noTone, small}
+use Rattle.rules.specs.TheWord.{State, Done, acted, undone, appended, stateOf, touchedOf, outcomeOf, oneMore, isActed, isUndone, isAppended, noKey, shapedOn, mostKeys, letter, number, atFront}
 use Rattle.rules.specs.KeyRoles as Rules
-use Rattle.rules.specs.KeyRoles.{letterOfKey, asksSecondHorn, takesSecondHorn, hornOnUIf, append, undo, nothing, off, change}
+use Rattle.rules.specs.KeyRoles.{letterOfKey, asksSecondHorn, takesSecondHorn, hornOnUIf, touchedIf, isAdded, undo, nothing, off, change}
 use Rattle.rules.specs.declared.Role.{Role}
 use Rattle.rules.specs.declared.Role.the-variants.{NoRole}
+use Rattle.rules.specs.declared.Touched.{Touched}
+use Rattle.rules.specs.declared.Touched.the-variants.{NoLetter, OneLetter, TwoLetters}
 use Rattle.rules.specs.declared.Outcome.{Outcome}
+use Rattle.rules.specs.declared.Outcome.the-variants.{Acted, Undone, Appended}
 use Rattle.rules.specs.declared.StepAnswer.the-variants.{Refused}
 use Rattle.records.specs.declared.Numbers.{Numbers}
 use Rattle.step.specs.declared.StepIn.{StepIn}
@@ -53,13 +57,13 @@ dee kind = small (code "d") kind
 -- an edit without its letters, and the array with them
 abbrev pub kindOf : Rules.Edit → Edit
 kindOf nothing = Nothing
-kindOf (off w) = Off
-kindOf (change a w) = Change a
+kindOf (off g w) = Off g
+kindOf (change a g w) = Change a g
 
 abbrev pub editedIn : List ℕ → Rules.Edit → List ℕ
 editedIn l nothing = l
-editedIn l (off w) = atFront (map number w) l
-editedIn l (change a w) = atFront (map number w) l
+editedIn l (off g w) = atFront (map number w) l
+editedIn l (change a g w) = atFront (map number w) l
 
 pub record Edits (e : Rules.Edit) (old : List ℕ) (r : Edit) (new : List ℕ) : Type 0 where
   pub told : r ≡ kindOf e
@@ -83,7 +87,10 @@ appendedPlainly s k = record { letters = s .letters ++ (k ∷ []); tone = s .ton
 abbrev pub NoSecondHorn : ℕ → Type 0
 NoSecondHorn key = asksSecondHorn (letterOfKey key .base) ≡ false
 
--- the array once an appended letter has put the second horn on, where it does
+-- the letter on which an appended letter puts the second horn, where it does, and the array then
+abbrev pub secondHornOn : List ℕ → Rest → Letter → Touched
+secondHornOn l r k = touchedIf (takesSecondHorn (stateIn l r) k) (stateIn l r .letters)
+
 abbrev pub withSecondHorn : List ℕ → Rest → Letter → List ℕ
 withSecondHorn l r k = atFront (map number (hornOnUIf (takesSecondHorn (stateIn l r) k) (stateIn l r .letters))) l
 
@@ -92,14 +99,37 @@ pub record LeavesState (s : State) (old : List ℕ) (r : Rest) (new : List ℕ) 
   pub left : new ≡ lettersLeft old s
 
 pub record DoesAsRuled (d : Done) (old : List ℕ) (r : Answer.Done) (new : List ℕ) : Type 0 where
-  pub told : r ≡ record { outcome = outcomeOf d; rest = restOf (stateOf d) }
+  pub told : r ≡ record { outcome = outcomeOf d; touched = touchedOf d; rest = restOf (stateOf d) }
   pub left : new ≡ lettersLeft old (stateOf d)
+
+-- the letters that a key touched lie among so many
+abbrev pub TouchesIn : ℕ → Touched → Type 0
+TouchesIn n NoLetter = Unit {0}
+TouchesIn n (OneLetter i) = i < n
+TouchesIn n (TwoLetters i) = i + 1 < n
+
+-- the places of keys in their arrays, once a key at a place did this; and that of the tone's key, by the tone before and after it
+abbrev pub byThen : List ℕ → ℕ → ℕ → Outcome → List ℕ
+byThen l count here (Acted a) = l
+byThen l count here Undone = set l count here
+byThen l count here Appended = set l count here
+
+abbrev pub shaperOf : Outcome → ℕ → ℕ
+shaperOf (Acted a) here = here
+shaperOf Undone here = noKey
+shaperOf Appended here = here
+
+abbrev pub shapedThen : List ℕ → ℕ → ℕ → Touched → Outcome → List ℕ
+shapedThen l count here g o = byThen (shapedOn (shaperOf o here) g l) count noKey o
+
+abbrev pub tonedThen : ℕ → ℕ → ℕ → ℕ → ℕ
+tonedThen before after here p = elim (eqb before after) [ true ↦ p | false ↦ elim (eqb after noTone) [ true ↦ noKey | false ↦ here ] ]
 
 -- what a key does once the letters are edited
 abbrev pub afterEdit : Edit → State → Letter → Done
-afterEdit Nothing s k = appended (append s k)
-afterEdit Off s k = undone (undo s k)
-afterEdit (Change a) s k = acted a s
+afterEdit Nothing s k = isAdded s k
+afterEdit (Off g) s k = undone g (undo s k)
+afterEdit (Change a g) s k = acted a g s
 
 abbrev pub restWithTone : Rest → ℕ → Rest
 restWithTone r t = record { count = r .count; tone = t; closed = r .closed }

@@ -9,6 +9,7 @@ use rules::PLAIN;
 use rules::Place;
 use rules::STROKE;
 use rules::ShapeKey;
+use rules::Touched;
 ghost use mathlib.Core.Path.{_≡_};
 ghost use mathlib.Core.List.{map};
 ghost use Prim.Native.Nat.{_+_, _<_};
@@ -28,12 +29,12 @@ fn at(letters: &mut [u16], count: usize, i: usize, kind: u8) -> Edit
     let old = letters[i];
     if rules::shape(old) == kind {
         letters[i] = rules::reshaped(old, PLAIN);
-        return Edit::Off;
+        return Edit::Off(Touched::OneLetter(i));
     }
     let new = rules::reshaped(old, kind);
     letters[i] = new;
     if syllable::admitted(&letters[0..count]) {
-        return Edit::Change(Act::Shape(kind));
+        return Edit::Change(Act::Shape(kind), Touched::OneLetter(i));
     }
     letters[i] = old;
     Edit::Nothing
@@ -62,7 +63,7 @@ fn both(letters: &mut [u16], count: usize, i: usize) -> Edit
             rules::reshaped(u, PLAIN),
             rules::reshaped(o, PLAIN),
         );
-        return Edit::Off;
+        return Edit::Off(Touched::TwoLetters(i));
     }
     put_pair(
         letters,
@@ -71,7 +72,7 @@ fn both(letters: &mut [u16], count: usize, i: usize) -> Edit
         rules::reshaped(o, HORN),
     );
     if syllable::admitted(&letters[0..count]) {
-        return Edit::Change(Act::Shape(HORN));
+        return Edit::Change(Act::Shape(HORN), Touched::TwoLetters(i));
     }
     put_pair(letters, i, u, o);
     Edit::Nothing
@@ -156,12 +157,12 @@ pub(crate) fn stroke_edit(letters: &mut [u16], count: usize) -> Edit
     let first = letters[0];
     if rules::is(first, b'd', STROKE) {
         letters[0] = rules::reshaped(first, PLAIN);
-        return Edit::Off;
+        return Edit::Off(Touched::OneLetter(0));
     }
     let alone = count == 1;
     if rules::is(first, b'd', PLAIN) & (alone | syllable::admitted(&letters[0..count])) {
         letters[0] = rules::reshaped(first, STROKE);
-        return Edit::Change(Act::Stroke);
+        return Edit::Change(Act::Stroke, Touched::OneLetter(0));
     }
     Edit::Nothing
 }

@@ -9,27 +9,28 @@ use rules::Role;
 use rules::Step;
 use rules::StepAnswer;
 use rules::ToneKey;
+use rules::Touched;
 use rules::Word;
 ghost use mathlib.Core.Path.{_≡_};
 ghost use mathlib.Core.Bool.{true, false};
 ghost use Prim.Native.Nat.{_≤_, _<_};
-ghost use lib.ListN.{length};
-ghost use Rattle.rules.specs.TheWord.{mostKeys, appended as appendedOf, undone as undoneOf};
+ghost use lib.ListN.{length, set};
+ghost use Rattle.rules.specs.TheWord.{mostKeys, appended as appendedOf, undone as undoneOf, noKey, shapedOn};
 ghost use Rattle.rules.specs.KeyRoles.{letterOfKey, asksSecondHorn, undo as undoOf, toneDoes, unlessClosed, role as roleOf, isKey};
 ghost use Rattle.rules.specs.Refusals.{outOfRange};
 ghost use Rattle.rules.specs.LettersOfAMode.{AllFine};
 ghost use Rattle.rules.specs.WhatComesBack.{step as stepOf};
-ghost use Rattle.step.specs.LentLetters.{LettersInFront, RoomForLetter, NoSecondHorn, appendedPlainly, withSecondHorn, LeavesState, DoesAsRuled, stateIn, afterEdit, restWithTone, countedIn, unlessClosedRole, refusedStep};
+ghost use Rattle.step.specs.LentLetters.{LettersInFront, RoomForLetter, NoSecondHorn, appendedPlainly, secondHornOn, withSecondHorn, LeavesState, DoesAsRuled, stateIn, afterEdit, restWithTone, countedIn, unlessClosedRole, refusedStep, TouchesIn, byThen, shapedThen, tonedThen};
 ghost use Rattle.step.specs.LentWord.{stepIn};
 ghost use Rattle.records.specs.Numbers.{wordIn};
 
 mod edits;
 
-// What a shape or stroke key did to the letters: nothing, a mark taken off, or a change.
+// What a shape or stroke key did to the letters: nothing, a mark taken off, or a change; and on which of them.
 enum Edit {
     Nothing,
-    Off,
-    Change(Act),
+    Off(Touched),
+    Change(Act, Touched),
 }
 
 // A word's state beside its letters.
@@ -39,9 +40,10 @@ struct Rest {
     closed: bool,
 }
 
-// What a key did, and the state beside the letters then, before the key is kept and counted.
+// What a key did, on which letters, and the state beside the letters then, before the key is kept and counted.
 struct Done {
     outcome: Outcome,
+    touched: Touched,
     rest: Rest,
 }
 
@@ -59,24 +61,26 @@ fn append(letters: &mut [u16], rest: Rest, key: u8) -> Rest
     }
 }
 
-fn appended(letters: &mut [u16], rest: Rest, key: u8) -> Done
+fn appended(letters: &mut [u16], rest: Rest, key: u8, touched: Touched) -> Done
     requires { ⌜ RoomForLetter (now letters) (rest .count) ⌝ }
-    ensures { λ r. ⌜ DoesAsRuled (appendedOf (appendedPlainly (stateIn (now (letters .entry)) rest) (letterOfKey key))) (now (letters .entry)) r (now (letters .exit)) ⌝ }
+    ensures { λ r. ⌜ DoesAsRuled (appendedOf touched (appendedPlainly (stateIn (now (letters .entry)) rest) (letterOfKey key))) (now (letters .entry)) r (now (letters .exit)) ⌝ }
 {
     Done {
         outcome: Outcome::Appended,
+        touched: touched,
         rest: append(letters, rest, key),
     }
 }
 
 // What is left once the mark is off: the key is appended and the word closed.
-fn undone(letters: &mut [u16], rest: Rest, key: u8) -> Done
+fn undone(letters: &mut [u16], rest: Rest, key: u8, touched: Touched) -> Done
     requires { ⌜ RoomForLetter (now letters) (rest .count) ⌝ }
-    ensures { λ r. ⌜ DoesAsRuled (undoneOf (undoOf (stateIn (now (letters .entry)) rest) (letterOfKey key))) (now (letters .entry)) r (now (letters .exit)) ⌝ }
+    ensures { λ r. ⌜ DoesAsRuled (undoneOf touched (undoOf (stateIn (now (letters .entry)) rest) (letterOfKey key))) (now (letters .entry)) r (now (letters .exit)) ⌝ }
 {
     let next = append(letters, rest, key);
     Done {
         outcome: Outcome::Undone,
+        touched: touched,
         rest: Rest {
             count: next.count,
             tone: next.tone,
@@ -104,24 +108,26 @@ fn tone_key(letters: &mut [u16], rest: Rest, key: u8, role: ToneKey) -> Done
     let tone = rest.tone;
     let ToneKey::SetTone(wanted) = role else {
         if tone == NO_TONE {
-            return appended(letters, rest, key);
+            return appended(letters, rest, key, Touched::NoLetter);
         }
         return Done {
             outcome: Outcome::Acted(Act::Clear),
+            touched: Touched::NoLetter,
             rest: with_tone(rest, NO_TONE),
         };
     };
     if tone == wanted {
-        return undone(letters, with_tone(rest, NO_TONE), key);
+        return undone(letters, with_tone(rest, NO_TONE), key, Touched::NoLetter);
     }
     let n = rest.count as usize;
     if syllable::takes_tone(&letters[0..n], wanted) {
         return Done {
             outcome: Outcome::Acted(Act::Tone(wanted)),
+            touched: Touched::NoLetter,
             rest: with_tone(rest, wanted),
         };
     }
-    appended(letters, rest, key)
+    appended(letters, rest, key, Touched::NoLetter)
 }
 
 // What an edit of the letters does: nothing is an appended key, a mark taken off an undo, a change an act.
@@ -129,16 +135,17 @@ fn edit_does(letters: &mut [u16], rest: Rest, key: u8, edit: Edit) -> Done
     requires { ⌜ RoomForLetter (now letters) (rest .count) × NoSecondHorn key ⌝ }
     ensures { λ r. ⌜ DoesAsRuled (afterEdit edit (stateIn (now (letters .entry)) rest) (letterOfKey key)) (now (letters .entry)) r (now (letters .exit)) ⌝ }
 {
-    if let Edit::Off = edit {
-        return undone(letters, rest, key);
+    if let Edit::Off(touched) = edit {
+        return undone(letters, rest, key, touched);
     }
-    if let Edit::Change(act) = edit {
+    if let Edit::Change(act, touched) = edit {
         return Done {
             outcome: Outcome::Acted(act),
+            touched: touched,
             rest: rest,
         };
     }
-    appended(letters, rest, key)
+    appended(letters, rest, key, Touched::NoLetter)
 }
 
 // In a closed word no key has a role.
@@ -160,22 +167,23 @@ fn asks_second_horn(b: u8) -> bool
             | ((b == b'c') | ((b == b'm') | ((b == b'n') | ((b == b'p') | (b == b't'))))))
 }
 
-// The horn that an appended letter puts on the u of an open huơ, khuơ or thuơ. Only letters without a role put it on.
-fn second_horn(letters: &mut [u16], rest: Rest, key: u8)
+// The horn that an appended letter puts on the u of an open huơ, khuơ or thuơ, and that u. Only letters without a role put it on.
+fn second_horn(letters: &mut [u16], rest: Rest, key: u8) -> Touched
     requires { ⌜ LettersInFront (now letters) (rest .count) ⌝ }
-    ensures { λ r. ⌜ now (letters .exit) ≡ withSecondHorn (now (letters .entry)) rest (letterOfKey key) ⌝ }
+    ensures { λ r. ⌜ (r ≡ secondHornOn (now (letters .entry)) rest (letterOfKey key)) × (now (letters .exit) ≡ withSecondHorn (now (letters .entry)) rest (letterOfKey key)) ⌝ }
 {
     let n = rest.count as usize;
     if !targets::awaits_second_horn(&letters[0..n]) {
-        return;
+        return Touched::NoLetter;
     }
     if rest.closed {
-        return;
+        return Touched::NoLetter;
     }
     if !asks_second_horn(rules::base(keys::letter_of_key(key))) {
-        return;
+        return Touched::NoLetter;
     }
     letters[n - 2] = rules::reshaped(letters[n - 2], HORN);
+    Touched::OneLetter(n - 2)
 }
 
 // What a key does by its role: one that has none is appended.
@@ -196,8 +204,8 @@ fn key_does(letters: &mut [u16], rest: Rest, mode: u8, key: u8) -> Done
             edit_does(letters, rest, key, edit)
         }
         Role::NoRole => {
-            second_horn(letters, rest, key);
-            appended(letters, rest, key)
+            let touched = second_horn(letters, rest, key);
+            appended(letters, rest, key, touched)
         }
     }
 }
@@ -227,6 +235,68 @@ fn counted(counts: Counts, outcome: Outcome) -> Counts
     next
 }
 
+// The letters that a key touched were shaped by the key at this place, or by none.
+fn put_shaper(shaped_by: &mut [u8], touched: Touched, place: u8)
+    requires { ⌜ TouchesIn (length (now «shaped_by»)) touched ⌝ }
+    ensures { λ _. ⌜ now («shaped_by» .exit) ≡ shapedOn place touched (now («shaped_by» .entry)) ⌝ }
+{
+    if let Touched::OneLetter(i) = touched {
+        shaped_by[i] = place;
+        return;
+    }
+    if let Touched::TwoLetters(i) = touched {
+        shaped_by[i] = place;
+        shaped_by[i + 1] = place;
+    }
+}
+
+// The new letter of a key that did not act, after the others: appended by the key at this place, and shaped by none.
+fn put_letter(appended_by: &mut [u8], shaped_by: &mut [u8], count: usize, here: u8)
+    requires { ⌜ (count < length (now «appended_by»)) × (count < length (now «shaped_by»)) ⌝ }
+    ensures { λ _. ⌜ (now («appended_by» .exit) ≡ set (now («appended_by» .entry)) count here) × (now («shaped_by» .exit) ≡ set (now («shaped_by» .entry)) count noKey) ⌝ }
+{
+    appended_by[count] = here;
+    shaped_by[count] = Word::NO_KEY;
+}
+
+// What a key leaves of the places of keys: it has shaped the letters that it touched, or after an undo none has.
+fn put_places(
+    appended_by: &mut [u8],
+    shaped_by: &mut [u8],
+    count: usize,
+    outcome: Outcome,
+    touched: Touched,
+    here: u8,
+)
+    requires { ⌜ (count < length (now «appended_by»)) × (count < length (now «shaped_by»)) × TouchesIn (length (now «shaped_by»)) touched ⌝ }
+    ensures { λ _. ⌜ (now («appended_by» .exit) ≡ byThen (now («appended_by» .entry)) count here outcome) × (now («shaped_by» .exit) ≡ shapedThen (now («shaped_by» .entry)) count here touched outcome) ⌝ }
+{
+    if let Outcome::Appended = outcome {
+        put_shaper(shaped_by, touched, here);
+        put_letter(appended_by, shaped_by, count, here);
+        return;
+    }
+    if let Outcome::Undone = outcome {
+        put_shaper(shaped_by, touched, Word::NO_KEY);
+        put_letter(appended_by, shaped_by, count, here);
+        return;
+    }
+    put_shaper(shaped_by, touched, here);
+}
+
+// The place of the key that set the tone: a key that changed it has set it, or there is none.
+fn toner(before: u8, after: u8, here: u8, toned_by: u8) -> u8
+    ensures { λ r. ⌜ r ≡ tonedThen before after here «toned_by» ⌝ }
+{
+    if before == after {
+        return toned_by;
+    }
+    if after == NO_TONE {
+        return Word::NO_KEY;
+    }
+    here
+}
+
 // What a step gives where the word's arrays are lent: its answer, and the word's numbers then.
 pub struct StepIn {
     pub answer: StepAnswer,
@@ -234,9 +304,18 @@ pub struct StepIn {
 }
 
 // A key that a word in range has room for and its mode allows: kept, and counted by what it did.
-fn typed(letters: &mut [u16], keys: &mut [u8], mode: u8, n: Numbers, key: u8) -> StepIn
-    requires { ⌜ (length (now letters) ≡ mostKeys) × (length (now keys) ≡ mostKeys) × (outOfRange (wordIn mode (now letters) (now keys) n) ≡ false) × (n .typed < mostKeys) × (isKey mode key ≡ true) ⌝ }
-    ensures { λ r. ⌜ stepIn mode (now (letters .exit)) (now (keys .exit)) r ≡ stepOf (wordIn mode (now (letters .entry)) (now (keys .entry)) n) key ⌝ }
+fn typed(
+    letters: &mut [u16],
+    appended_by: &mut [u8],
+    shaped_by: &mut [u8],
+    keys: &mut [u8],
+    toned_by: &mut u8,
+    mode: u8,
+    n: Numbers,
+    key: u8,
+) -> StepIn
+    requires { ⌜ (length (now letters) ≡ mostKeys) × (length (now «appended_by») ≡ mostKeys) × (length (now «shaped_by») ≡ mostKeys) × (length (now keys) ≡ mostKeys) × (outOfRange (wordIn mode (now letters) (now «appended_by») (now «shaped_by») (now keys) (now «toned_by») n) ≡ false) × (n .typed < mostKeys) × (isKey mode key ≡ true) ⌝ }
+    ensures { λ r. ⌜ stepIn mode (now (letters .exit)) (now («appended_by» .exit)) (now («shaped_by» .exit)) (now (keys .exit)) (now («toned_by» .exit)) r ≡ stepOf (wordIn mode (now (letters .entry)) (now («appended_by» .entry)) (now («shaped_by» .entry)) (now (keys .entry)) (now («toned_by» .entry)) n) key ⌝ }
 {
     let rest = Rest {
         count: n.count,
@@ -245,9 +324,19 @@ fn typed(letters: &mut [u16], keys: &mut [u8], mode: u8, n: Numbers, key: u8) ->
     };
     let done = key_does(letters, rest, mode, key);
     let outcome = done.outcome;
+    let touched = done.touched;
     let now = done.rest;
     let at = n.typed as usize;
     keys[at] = key;
+    put_places(
+        appended_by,
+        shaped_by,
+        n.count as usize,
+        outcome,
+        touched,
+        n.typed,
+    );
+    *toned_by = toner(n.tone, now.tone, n.typed, *toned_by);
     let counts = counted(
         Counts {
             acted: n.acted,
@@ -259,13 +348,13 @@ fn typed(letters: &mut [u16], keys: &mut [u8], mode: u8, n: Numbers, key: u8) ->
     StepIn {
         answer: StepAnswer::Did(outcome),
         numbers: Numbers {
+            count: now.count,
+            tone: now.tone,
+            closed: now.closed,
             typed: n.typed + 1,
             acted: counts.acted,
             undone: counts.undone,
             appended: counts.appended,
-            count: now.count,
-            tone: now.tone,
-            closed: now.closed,
         },
     }
 }
@@ -282,18 +371,23 @@ fn refused(n: Numbers, number: u8, value: usize) -> StepIn
     }
 }
 
-// One key, typed into a word whose letters and keys are lent and changed where they lie: a record that is handed on by value is copied each time.
+// One key, typed into a word whose arrays are lent and changed where they lie: a record that is handed on by value is copied each time.
 // Refusals: 8, 2, 3; the word is then as it was.
 pub fn step_in(
     letters: &mut [u16; Word::KEYS],
+    appended_by: &mut [u8; Word::KEYS],
+    shaped_by: &mut [u8; Word::KEYS],
     keys: &mut [u8; Word::KEYS],
+    toned_by: &mut u8,
     mode: u8,
     n: Numbers,
     key: u8,
 ) -> StepIn
-    ensures { λ r. ⌜ stepIn mode (now (letters .exit)) (now (keys .exit)) r ≡ stepOf (wordIn mode (now (letters .entry)) (now (keys .entry)) n) key ⌝ }
+    ensures { λ r. ⌜ stepIn mode (now (letters .exit)) (now («appended_by» .exit)) (now («shaped_by» .exit)) (now (keys .exit)) (now («toned_by» .exit)) r ≡ stepOf (wordIn mode (now (letters .entry)) (now («appended_by» .entry)) (now («shaped_by» .entry)) (now (keys .entry)) (now («toned_by» .entry)) n) key ⌝ }
 {
-    if records::numbers_wrong(mode, n) {
+    if records::numbers_wrong(mode, n)
+        | records::places_wrong(n.typed, n.count, appended_by, shaped_by, *toned_by)
+    {
         return refused(n, 8, 0);
     }
     let at = n.typed as usize;
@@ -312,7 +406,16 @@ pub fn step_in(
     if !keys::is_key(mode, key) {
         return refused(n, 3, at);
     }
-    typed(letters, keys, mode, n, key)
+    typed(
+        letters,
+        appended_by,
+        shaped_by,
+        keys,
+        toned_by,
+        mode,
+        n,
+        key,
+    )
 }
 
 // One key. Refusals: 8, 2, 3; the word is then as it was.
@@ -320,12 +423,24 @@ pub fn step(w: Word, key: u8) -> Step
     ensures { λ r. ⌜ r ≡ stepOf w key ⌝ }
 {
     let mut letters = w.letters;
+    let mut appended_by = w.appended_by;
+    let mut shaped_by = w.shaped_by;
     let mut keys = w.keys;
-    let done = step_in(&mut letters, &mut keys, w.mode, records::numbers_of(w), key);
+    let mut toned_by = w.toned_by;
+    let done = step_in(
+        &mut letters,
+        &mut appended_by,
+        &mut shaped_by,
+        &mut keys,
+        &mut toned_by,
+        w.mode,
+        records::numbers_of(w),
+        key,
+    );
     let answer = done.answer;
     let n = done.numbers;
     Step {
         answer: answer,
-        word: records::word_in(w.mode, letters, keys, n),
+        word: records::word_in(w.mode, letters, appended_by, shaped_by, keys, toned_by, n),
     }
 }

@@ -13,28 +13,32 @@ use Rattle.rules.specs.Refusals.{isMode, refusal}
 use Rattle.rules.specs.Drill.{newline, refusedLine, modeOf, lastLine, linesFrom, answers}
 use Rattle.lines.specs.Programs.{answerOf}
 use Rattle.lines.specs.declared.Program.{Program}
-use Rattle.lines.specs.declared.Program.the-variants.{Drill, Spell}
+use Rattle.lines.specs.declared.Program.the-variants.{Drill, DrillWithKeys, Spell}
 use Rattle.lines.proofs.Starts.{restOf, by-rest}
 use Rattle.stream.specs.Feeding.{mostKept}
 
 -- more than a program takes behind the start is refusal 2, whatever it is and whatever follows
 abbrev most : Program → ℕ
 most Drill = mostKeys
+most DrillWithKeys = mostKeys
 most Spell = mostBytes
 
 most-96 : (p : Program) → most p ≤ 96
 most-96 Drill = lit≤ tt
+most-96 DrillWithKeys = lit≤ tt
 most-96 Spell = lit≤ tt
 
 too-many : (p : Program) (m : ℕ) (rest : List ℕ) → not (isMode m) ≡ false → most p < length rest → restOf p m rest ≡ refusedLine (record { number = 2; value = most p })
 unfolding refusal
 too-many Drill m rest e h = simp (e, lt-ltb mostKeys (0 + length rest) (omega arith))
+too-many DrillWithKeys m rest e h = simp (e, lt-ltb mostKeys (0 + length rest) (omega arith))
 too-many Spell m rest e h = simp (e, lt-ltb mostBytes (length rest) h)
 
 -- and in no mode anything is refusal 1
 no-mode : (p : Program) (m : ℕ) (rest : List ℕ) → not (isMode m) ≡ true → restOf p m rest ≡ refusedLine (record { number = 1; value = 0 })
 unfolding refusal
 no-mode Drill m rest e = simp e
+no-mode DrillWithKeys m rest e = simp e
 no-mode Spell m rest e = simp e
 
 first-rest : (p : Program) (m : ℕ) (rest : List ℕ) → restOf p m rest ≡ restOf p m (take 97 rest)

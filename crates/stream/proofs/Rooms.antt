@@ -1,4 +1,4 @@
--- Room for 256 bytes and 6 more for each byte of a block is room for all its answers: then the whole block is taken.
+-- Room for the longest answer and for 12 bytes more a byte of a block is room for all its answers: then the whole block is taken.
 use mathlib.Core.Path.{_≡_, refl}
 use mathlib.Core.Bool.{Bool, true, false}
 use mathlib.Core.List.{List, [], _∷_}
@@ -8,33 +8,33 @@ use borrow.Author.Tests.{le-leb}
 use lib.Dec.{eqb, leb, ltb}
 use lib.ListN.{length, length-take, length-set}
 use Rattle.rules.specs.Drill.{newline}
-use Rattle.lines.specs.Appending.{mostInLine}
+use Rattle.lines.specs.Appending.{mostInLine, mostAByte}
 use Rattle.lines.proofs.Fits.{answer-fits, answer-by-the-byte}
-use Rattle.stream.specs.Feeding.{mostKept, lineOf, answerNow, keptIf, kept, ByteFed, byteIf, byteFed, stopped, after, Feeding, feeding}
+use Rattle.stream.specs.Feeding.{mostKept, lineOf, answerNow, keptIf, kept, ByteFed, byteIf, byteFed, stopped, after, Feeding, feeding, roomFor}
 use Rattle.stream.specs.declared.Begun.{Begun}
 
 -- what the line that has begun may need, without the newline that is still to come
 abbrev owed : Begun → ℕ
-owed s = min mostInLine (6 * length (lineOf s))
+owed s = min mostInLine (mostAByte * length (lineOf s))
 
-kept-owed : (s : Begun) (b : ℕ) → owed (kept s b) ≤ owed s + 6
+kept-owed : (s : Begun) (b : ℕ) → owed (kept s b) ≤ owed s + mostAByte
 unfolding kept
 kept-owed s b = go (ltb (s .length) mostKept)
   where
-    go : (c : Bool) → owed (keptIf c s b) ≤ owed s + 6
+    go : (c : Bool) → owed (keptIf c s b) ≤ owed s + mostAByte
     go true = simp (length-take, length-set) (omega arith)
     go false = omega arith
 
--- one byte, with room for what is owed and 6 bytes more: it is taken, and what it writes and what is owed then are no more than that
+-- one byte, with room for what is owed and for one byte more: it is taken, and what it writes and what is owed then are no more than that
 record Paid (s : Begun) (f : ByteFed) : Type 0 where
   taken : f .stuck ≡ false
-  enough : length (f .text) + owed (f .state) ≤ owed s + 6
+  enough : length (f .text) + owed (f .state) ≤ owed s + mostAByte
 
-paid : (s : Begun) (b room : ℕ) → owed s + 6 ≤ room → Paid s (byteFed s b room)
+paid : (s : Begun) (b room : ℕ) → owed s + mostAByte ≤ room → Paid s (byteFed s b room)
 unfolding byteFed
 paid s b room h = go (eqb b newline) (leb (length (answerNow s)) room) (le-leb (length (answerNow s)) room (omega (arith, answer)))
   where
-    answer : length (answerNow s) ≤ owed s + 6
+    answer : length (answerNow s) ≤ owed s + mostAByte
     answer = omega (arith, answer-fits (s .program) (lineOf s), answer-by-the-byte (s .program) (lineOf s))
 
     go : (e f : Bool) → f ≡ true → Paid s (byteIf e f s b)
@@ -42,7 +42,7 @@ paid s b room h = go (eqb b newline) (leb (length (answerNow s)) room) (le-leb (
     go true true d = record { taken = refl; enough = omega (arith, answer) }
     go true false d = let z : _≡_ {A = ℕ} 0 1 = cc in absurd (omega arith)
 
-all-paid : (s : Begun) (bytes : List ℕ) (room : ℕ) → owed s + 6 * length bytes ≤ room → feeding s bytes room .taken ≡ length bytes
+all-paid : (s : Begun) (bytes : List ℕ) (room : ℕ) → owed s + mostAByte * length bytes ≤ room → feeding s bytes room .taken ≡ length bytes
 all-paid s [] room h = refl
 all-paid s (b ∷ bs) room h =
     let f = byteFed s b room in
@@ -53,5 +53,5 @@ all-paid s (b ∷ bs) room h =
     go true e g n = let z : _≡_ {A = ℕ} 0 1 = cc in absurd (omega arith)
     go false e g n = omega (arith, n)
 
-pub all-taken : (s : Begun) (bytes : List ℕ) (room : ℕ) → mostInLine + 6 * length bytes ≤ room → feeding s bytes room .taken ≡ length bytes
+pub all-taken : (s : Begun) (bytes : List ℕ) (room : ℕ) → roomFor (length bytes) ≤ room → feeding s bytes room .taken ≡ length bytes
 all-taken s bytes room h = all-paid s bytes room (omega arith)

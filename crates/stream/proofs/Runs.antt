@@ -1,4 +1,4 @@
--- Feeding the input in blocks cut anywhere writes the answers to its lines: the drill's behind the header, and the speller's.
+-- Feeding the input in blocks cut anywhere writes the answers to its lines: the drill's behind the header, with the places of the keys or without, and the speller's.
 use mathlib.Core.Path.{_≡_, refl, sym, ap, _∙_}
 use mathlib.Core.Bool.{Bool, true, false}
 use mathlib.Core.List.{List, [], _∷_, _++_, append-assoc, append-nil}
@@ -10,7 +10,7 @@ use borrow.Author.Tests.{ltb-true, ltb-false}
 use lib.Dec.{eqb, leb, ltb}
 use lib.ListN.{length, take, drop, set, length-set, length-take}
 use lib.Seq.{take-suc-set, take-append-le}
-use Rattle.rules.specs.Drill.{newline, header, lastLine, linesFrom, answers, drill}
+use Rattle.rules.specs.Drill.{newline, header, lastLine, linesFrom, answers, drill, keyHeader, drillWithKeys}
 use Rattle.rules.specs.SpellProgram.{spellProgram}
 use Rattle.rules.specs.Refusals.{refusal}
 use Rattle.rules.specs.WhatComesBack.{writeOr, roomCall}
@@ -20,7 +20,7 @@ use Rattle.rules.proofs.StaysInRange.{read-front}
 use Rattle.output.specs.Front.{put}
 use Rattle.lines.specs.Programs.{answerOf}
 use Rattle.lines.specs.declared.Program.{Program}
-use Rattle.lines.specs.declared.Program.the-variants.{Drill, Spell}
+use Rattle.lines.specs.declared.Program.the-variants.{Drill, DrillWithKeys, Spell}
 use Rattle.stream.specs.Feeding.{mostKept, noneBegun, lineOf, answerNow, keptIf, kept, ByteFed, byteIf, byteFed, Feeding, stopped, after, feeding, finishOr, Run, finished, fed}
 use Rattle.stream.specs.declared.Begun.{Begun}
 use Rattle.stream.proofs.FirstBytes.{alike}
@@ -134,6 +134,10 @@ module _ (p : Program) where
 pub drilled : {input text : List ℕ} → Run (noneBegun Drill) input text → header ++ text ≡ drill input
 unfolding drill
 drilled run = ap (λ (t : List ℕ). header ++ t) (from-none Drill run)
+
+pub drilled-with-keys : {input text : List ℕ} → Run (noneBegun DrillWithKeys) input text → keyHeader ++ text ≡ drillWithKeys input
+unfolding drillWithKeys
+drilled-with-keys run = ap (λ (t : List ℕ). keyHeader ++ t) (from-none DrillWithKeys run)
 
 pub spelled : {input text : List ℕ} → Run (noneBegun Spell) input text → text ≡ spellProgram input
 unfolding spellProgram

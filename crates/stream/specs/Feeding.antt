@@ -3,13 +3,14 @@
 use mathlib.Core.Path.{_≡_}
 use mathlib.Core.Bool.{Bool, true, false}
 use mathlib.Core.List.{List, [], _∷_, _++_}
-use Prim.Native.Nat.{ℕ, _+_, _-_}
+use Prim.Native.Nat.{ℕ, _+_, _*_, _-_}
 use lib.Dec.{eqb, leb, ltb}
 use lib.ListN.{length, take, drop, set, replicate}
 use Rattle.rules.specs.WhatComesBack.{Written}
 use Rattle.rules.specs.Drill.{newline}
 use Rattle.rules.specs.TheWord.{atFront}
 use Rattle.rules.specs.declared.WriteAnswer.the-variants.{Wrote}
+use Rattle.lines.specs.Appending.{mostInLine, mostAByte}
 use Rattle.lines.specs.Programs.{answerOf, lineAnswer}
 use Rattle.lines.specs.declared.Program.{Program}
 use Rattle.stream.specs.declared.Begun.{Begun}
@@ -75,6 +76,10 @@ feeding s (b ∷ bs) room =
       | true ↦ stopped s
       | false ↦ after 1 (byteFed s b room .text) (feeding (byteFed s b room .state) bs (room - length (byteFed s b room .text)))
     ]
+
+-- room for all answers to so many bytes, that to a line which had begun before them among these
+abbrev pub roomFor : ℕ → ℕ
+roomFor n = mostInLine + mostAByte * n
 
 -- text at a place of an output
 abbrev pub putAt : ℕ → List ℕ → List ℕ → List ℕ

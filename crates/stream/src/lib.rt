@@ -50,6 +50,12 @@ pub fn header(program: Program, out: &mut [u8]) -> WriteAnswer
 {
     match program {
         Program::Drill => output::write(b"shown commit verdict tone place decision\n", out),
+        Program::DrillWithKeys => {
+            output::write(
+                b"shown commit verdict tone place decision letters tonekey\n",
+                out,
+            )
+        }
         Program::Spell => output::write(b"", out),
     }
 }

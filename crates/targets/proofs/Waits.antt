@@ -7,7 +7,7 @@ use native.Mathlib.Omega.{arith}
 use lib.Dec.{T}
 use lib.ListN.{length, length-append}
 use Rattle.rules.specs.Letters.{Letter, Letters, horn, words}
-use Rattle.rules.specs.KeyRoles.{shaped, awaitsSecondHorn, hornOnU, isO, hornsOAlone}
+use Rattle.rules.specs.KeyRoles.{shaped, awaitsSecondHorn, hornOnU, placeOfU, isO, hornsOAlone}
 use Rattle.rules.specs.declared.Place.{Place}
 use Rattle.rules.specs.declared.Place.the-variants.{At, Nowhere}
 use Rattle.rules.proofs.Tests.{is-true}
@@ -53,6 +53,9 @@ module _ (w : Letters) (h : awaitsSecondHorn w ≡ true) where
 
   pub u-and-o : 2 ≤ length w
   u-and-o = omega (arith, long)
+
+  pub u-before-o : (n : ℕ) → length w ≡ n + 2 → placeOfU w ≡ n
+  u-before-o n e = waits .u-place ∙ omega (arith, long, e)
 
   pub horn-on-u : (n : ℕ) → length w ≡ n + 2 → hornOnU w ≡ reshape n horn w
   horn-on-u n e =

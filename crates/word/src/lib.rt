@@ -70,15 +70,27 @@ fn typed_all(mode: u8, keys: &[u8]) -> Word
     let begun = start(mode);
     let w = begun.word;
     let mut letters = w.letters;
+    let mut appended_by = w.appended_by;
+    let mut shaped_by = w.shaped_by;
     let mut kept = w.keys;
+    let mut toned_by = w.toned_by;
     let mut n = records::numbers_of(w);
     let mut i = 0;
     while i < keys.len() {
-        let done = step::step_in(&mut letters, &mut kept, mode, n, keys[i]);
+        let done = step::step_in(
+            &mut letters,
+            &mut appended_by,
+            &mut shaped_by,
+            &mut kept,
+            &mut toned_by,
+            mode,
+            n,
+            keys[i],
+        );
         n = done.numbers;
         i += 1;
     }
-    records::word_in(mode, letters, kept, n)
+    records::word_in(mode, letters, appended_by, shaped_by, kept, toned_by, n)
 }
 
 fn refused(number: u8, value: usize) -> TypeAll

@@ -47,13 +47,13 @@ fz-type-and-show-spec =
     (λ c.
     let told = c .before .before .before .before .before .before .before .before .before in
     let done = told .before .before in
-    let yes = done .before .before .before .before .before .before .before in
+    let yes = done .before .before .before .before .before .before .before .before .before .before .before .before in
     let read = yes .before .before in
     let args = read .before .before .before .before .before .args in
     let w = read .read .result .word in
     let r = done .step-in .result in
-    let s : Step = stepIn (w .mode) (done .step-in .last .0) (done .step-in .last .1 .0) r in
-    let by-step = lent-step w (args .key) (done .step-in .last .0) (done .step-in .last .1 .0) (done .before .numbers-of .result) r (done .before .numbers-of .ensures) (done .step-in .ensures) in
+    let s : Step = stepIn (w .mode) (done .step-in .last .0) (done .step-in .last .1 .0) (done .step-in .last .1 .1 .0) (done .step-in .last .1 .1 .1 .0) (done .step-in .last .1 .1 .1 .1 .0) r in
+    let by-step = lent-step w (args .key) s (done .before .numbers-of .result) (done .before .numbers-of .ensures) (done .step-in .ensures) in
     let whole : Whole w = subst (λ (x : RecordRead). Whole (x .word)) (sym (read .read .ensures)) (read-whole (args .lent .now)) in
     within w (args .key) (args .out .now) s by-step whole (told .answer .given .0 .0) (told .answer .given .1))
     (λ c κs. search needs)
@@ -68,13 +68,13 @@ fz-type-and-show-spec =
     let stored = numbered .before .before .before in
     let told = stored .before .before .before .before in
     let done = told .before .before in
-    let yes = done .before .before .before .before .before .before .before in
+    let yes = done .before .before .before .before .before .before .before .before .before .before .before .before in
     let read = yes .before .before in
     let args = read .before .before .before .before .before .args in
     let w = read .read .result .word in
     let r = done .step-in .result in
-    let s : Step = stepIn (w .mode) (done .step-in .last .0) (done .step-in .last .1 .0) r in
-    let by-step = lent-step w (args .key) (done .step-in .last .0) (done .step-in .last .1 .0) (done .before .numbers-of .result) r (done .before .numbers-of .ensures) (done .step-in .ensures) in
+    let s : Step = stepIn (w .mode) (done .step-in .last .0) (done .step-in .last .1 .0) (done .step-in .last .1 .1 .0) (done .step-in .last .1 .1 .1 .0) (done .step-in .last .1 .1 .1 .1 .0) r in
+    let by-step = lent-step w (args .key) s (done .before .numbers-of .result) (done .before .numbers-of .ensures) (done .step-in .ensures) in
     let whole : Whole w = subst (λ (x : RecordRead). Whole (x .word)) (sym (read .read .ensures)) (read-whole (args .lent .now)) in
     let both = with-room w (args .key) (args .out .now) s by-step whole (told .answer .given .0 .0) (told .answer .given .1)
     (filled .in-room .result) _ (read .before .before .if1 .left) (filled .in-room .ensures .0) (filled .in-room .ensures .1) in
@@ -93,13 +93,13 @@ fz-type-and-show-spec =
     (λ c.
     let told = c .before .before .before in
     let done = told .before .before in
-    let yes = done .before .before .before .before .before .before .before in
+    let yes = done .before .before .before .before .before .before .before .before .before .before .before .before in
     let read = yes .before .before in
     let args = read .before .before .before .before .before .args in
     let w = read .read .result .word in
     let r = done .step-in .result in
-    let s : Step = stepIn (w .mode) (done .step-in .last .0) (done .step-in .last .1 .0) r in
-    let by-step = lent-step w (args .key) (done .step-in .last .0) (done .step-in .last .1 .0) (done .before .numbers-of .result) r (done .before .numbers-of .ensures) (done .step-in .ensures) in
+    let s : Step = stepIn (w .mode) (done .step-in .last .0) (done .step-in .last .1 .0) (done .step-in .last .1 .1 .0) (done .step-in .last .1 .1 .1 .0) (done .step-in .last .1 .1 .1 .1 .0) r in
+    let by-step = lent-step w (args .key) s (done .before .numbers-of .result) (done .before .numbers-of .ensures) (done .step-in .ensures) in
     let no = refused-so w (args .key) (args .out .now) s by-step (told .answer2 .given .0 .0) (told .answer2 .given .1) in
     let said = Calls.typeAndShow (args .lent .now) (args .key) (args .out .now) in
     let all = stepAndShow w (args .key) (args .out .now) .result in

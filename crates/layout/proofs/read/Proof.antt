@@ -1,13 +1,7 @@
 -- `layout::read` meets its contract: no record, or each part from its place.
-use mathlib.Core.Path.{_≡_, refl, ap₂, _∙_}
-use mathlib.Core.Bool.{true}
-use mathlib.Core.List.{List}
-use Prim.Native.Nat.{ℕ}
-use native.Mathlib.Omega.{arith}
-use lib.ListN.{length, take, drop, length-take, length-drop}
+use mathlib.Core.Path.{_∙_}
 use borrow.Author.Needs.{needs}
-use Rattle.layout.specs.Places.{wordFrom}
-use Rattle.layout.proofs.Answers.{withParts, copied, another-length, another-mark, is-record}
+use Rattle.layout.proofs.Answers.{another-length, another-mark, all-read}
 use Rattle.layout.proofs.read.Statement.{statement}
 use Rattle.layout.proofs.read.Tie as tie
 
@@ -36,15 +30,26 @@ read-spec =
     (λ c. search needs)
     (λ c. search needs)
     (λ c. search needs)
+    (λ c κs. search needs)
+    (λ c. search needs)
+    (λ c. search needs)
+    (λ c. search needs)
+    (λ c. search needs)
+    (λ c κs. search needs)
+    (λ c. search needs)
+    (λ c. search needs)
+    (λ c. search needs)
+    (λ c. search needs)
+    (λ c. search needs)
     (λ c. search needs)
     (λ c. search needs)
     (λ c. search needs)
     (λ c.
-    let lettered = c .before .before .before .before .before .before .before in
+    let shaped = c .before .before .before .before .before .before .before .before .before in
+    let placed = shaped .before .before .before .before in
+    let lettered = placed .before .before .before in
     let keyed = lettered .before .before .before in
     let no = keyed .before .before .before in
     let long = no .before .before in
     let bs = long .before .before .args .buffer .now in
-    let whole : length (take 32 (drop 8 bs)) ≡ 32 = simp (length-take, length-drop) (omega (arith, long .if1 .left)) in
-    let keys = keyed .copy .ensures .1 ∙ copied (take 32 (drop 8 bs)) _ whole refl in
-    ap₂ (λ (ks ls : List ℕ). record { is_record = true; word = withParts (wordFrom bs) (wordFrom bs .closed) ks ls }) keys (lettered .letters-in .ensures) ∙ is-record bs (long .if1 .left) (no .if2 .left)))
+    all-read bs (long .if1 .left) (no .if2 .left) (keyed .copy .ensures .1) (lettered .letters-in .ensures) (placed .copy2 .ensures .1) (shaped .copy3 .ensures .1)))

@@ -2,10 +2,10 @@
 use mathlib.Core.Path.{sym, ap, _∙_}
 use borrow.Author.Needs.{needs}
 use Rattle.rules.specs.TheWord.{wordOf}
-use Rattle.rules.specs.Drill.{wordLine}
 use Rattle.rules.specs.Refusals.{outOfRange}
 use Rattle.rules.specs.declared.TypeAll.{TypeAll}
 use Rattle.rules.proofs.NotRefused.{typed-in-range}
+use Rattle.lines.specs.Programs.{wordLineOf}
 use Rattle.lines.proofs.Columns.{as-part}
 use Rattle.lines.proofs.Words.{refused-keys, small-value, typed-keys}
 use Rattle.lines.proofs.keys_line.Statement.{statement}
@@ -27,7 +27,7 @@ keys-line-spec =
     let no = c .before .before .before .before .before in
     let all = no .before .before in
     let at = all .before .before .before in
-    as-part (refused-keys (at .args .mode) (at .args .keys .now) _ (sym (ap (λ (t : TypeAll). t .answer) (all .type-all .ensures)) ∙ no .answer .given .1)) (c .before .before .refused-line .ensures))
+    as-part (refused-keys (at .args .mode) (at .args .keys .now) (wordLineOf (at .args .keyed)) _ (sym (ap (λ (t : TypeAll). t .answer) (all .type-all .ensures)) ∙ no .answer .given .1)) (c .before .before .refused-line .ensures))
     (λ c. search needs)
     (λ c κs.
     let told = c .before in
@@ -43,4 +43,4 @@ keys-line-spec =
     let at = all .before .before .before in
     let e = all .type-all .ensures in
     let typed = sym (ap (λ (t : TypeAll). t .answer) e) ∙ told .enum-told .given .1 in
-    as-part (ap (λ (t : TypeAll). wordLine (wordOf (t .word))) e ∙ typed-keys (at .args .mode) (at .args .keys .now) typed) (c .before .before .word-line .ensures)))
+    as-part (ap (λ (t : TypeAll). wordLineOf (at .args .keyed) (wordOf (t .word))) e ∙ typed-keys (at .args .mode) (at .args .keys .now) (wordLineOf (at .args .keyed)) typed) (c .before .before .word-line .ensures)))

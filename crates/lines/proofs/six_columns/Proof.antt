@@ -5,7 +5,7 @@ use Prim.Native.Nat.{ℕ}
 use native.Mathlib.Omega.{arith}
 use borrow.Author.Needs.{needs}
 use Rattle.rules.specs.Decision.{handedBack}
-use Rattle.rules.specs.Drill.{newline, decimal, orHyphen, placeColumn, decisionColumn}
+use Rattle.rules.specs.Drill.{decimal, orHyphen, placeColumn, decisionColumn}
 use Rattle.lines.proofs.Columns.{as-part, and-then, hyphen-long, handed-long, decimal-long, place-long, in-six}
 use Rattle.lines.proofs.six_columns.Statement.{statement}
 use Rattle.lines.proofs.six_columns.Tie as tie
@@ -75,7 +75,7 @@ six-columns-spec =
     let b = v .before .before .before .before in
     let a = b .before .before .before .before in
     let args = a .before .before .before .before .before .args in
-    let letter = ap (λ (l : List ℕ). l ++ (newline ∷ [])) (f .before .letter .ensures) in
+    let letter = ap (λ (l : List ℕ). l ++ (args .end ∷ [])) (f .before .letter .ensures) in
     as-part
-    (in-six (orHyphen (args .shown .now)) (orHyphen (handedBack (args .decision) (args .shown .now) (args .keys .now))) (decimal (args .verdict)) (decimal (args .tone)) (placeColumn (args .place)) (decisionColumn (args .decision)))
+    (in-six (orHyphen (args .shown .now)) (orHyphen (handedBack (args .decision) (args .shown .now) (args .keys .now))) (decimal (args .verdict)) (decimal (args .tone)) (placeColumn (args .place)) (decisionColumn (args .decision)) (args .end))
     (and-then (a .text-column .ensures) (and-then (b .commit-column .ensures) (and-then (v .number-column .ensures) (and-then (d .number-column2 .ensures) (and-then (e .place-column .ensures) (as-part letter (f .byte-column .ensures)))))))))

@@ -1,13 +1,18 @@
--- `lines::word_line` meets its contract: the columns hold the word's text, keys, verdict, tone, place and decision.
-use mathlib.Core.Path.{_≡_, ap, _∙_}
+-- `lines::word_line` meets its contract: the six columns, and where they are asked for the two behind them.
+use mathlib.Core.Path.{sym, ap, _∙_}
+use mathlib.Core.Bool.{Bool}
+use Prim.Native.Nat.{_≤_}
+use Prim.Native.Char.{code}
 use native.Mathlib.Omega.{arith}
-use lib.Dec.{lit≤}
-use lib.ListN.{length, length-take}
+use lib.ListN.{length, length-map, length-take}
 use borrow.Author.Needs.{needs}
+use Rattle.rules.specs.TheWord.{mostKeys, wordOf}
 use Rattle.rules.proofs.Range.{few-letters}
-use Rattle.rules.proofs.TextFits.{text-fits}
-use Rattle.lines.proofs.Columns.{as-part}
-use Rattle.lines.proofs.Words.{text-long, text-made, its-verdict, its-place, its-decision, place-fits, few-typed, its-line}
+use Rattle.lines.specs.Programs.{wordLineOf}
+use Rattle.lines.proofs.Columns.{as-part, and-then}
+use Rattle.lines.proofs.KeyPlaces.{with-keys}
+use Rattle.lines.proofs.Words.{few-typed}
+use Rattle.lines.proofs.Fits.{word-long}
 use Rattle.lines.proofs.word_line.Statement.{statement}
 use Rattle.lines.proofs.word_line.Tie as tie
 
@@ -15,49 +20,25 @@ pub word-line-spec : {M : Type 1} → statement M
 word-line-spec =
     tie.close
     (tie.spec
-    (λ c. search needs)
-    (λ c. search needs)
-    (λ c. search needs)
-    (λ c.
-    let at = c .before .before .before .before in
-    let long : length (at .args .w .letters) ≡ 32 = search needs in
-    omega (arith, few-letters (at .args .w) (at .pre .1), long))
-    (λ c. search needs)
     (λ c κs. search needs)
-    (λ c κs. search needs)
-    (λ c κs. search needs)
-    (λ c κs. search needs)
-    (λ c. search needs)
-    (λ c. search needs)
-    (λ c. search needs)
-    (λ c.
-    let made = c .before .before .before .before .before .before .before .before .before .before in
-    let at = made .before .before .before .before .before .before .before in
-    let w = at .args .w in
-    let long : length (made .in-room .last .1 .1 .0) ≡ 96 = search needs in
-    omega (arith, text-long w (at .pre .1) (made .in-room .result) _ (lit≤ tt) (made .in-room .ensures .0), long, text-fits w (at .pre .1)))
-    (λ c. search needs)
-    (λ c. search needs)
-    (λ c.
-    let at = c .before .before .before .before .before .before .before .before .before .before .before .before .before .before .before .before .before .before .before in
-    let long : length (at .args .w .keys) ≡ 32 = search needs in
-    omega (arith, few-typed (at .args .w) (at .pre .1), long))
     (λ c κs.
-    let found = c .before .before .before .before .before .before .before .before .before .before in
-    let made = found .before .before .before in
-    let at = made .before .before .before .before .before .before .before in
+    let six = c .before .before .before in
+    let at = six .before .before .before .before in
     let w = at .args .w in
-    let text = text-made w (at .pre .1) (made .in-room .result) _ (lit≤ tt) (made .in-room .ensures .0) _ (made .in-room .ensures .1) in
-    (at .pre .0, omega (arith, ap length text, text-fits w (at .pre .1)), simp length-take (omega (arith, few-typed w (at .pre .1))), place-fits w (at .pre .1) _ (found .tone-place .ensures ∙ its-place w (at .pre .1))))
+    let letters : length (wordOf w .state .letters) ≤ mostKeys = simp (length-map, length-take) (omega (arith, few-letters w (at .pre .1))) in
+    let keys : length (wordOf w .keys) ≤ mostKeys = simp length-take (omega (arith, few-typed w (at .pre .1))) in
+    (omega (arith, at .pre .0, six .word-columns .ensures .moved, six .word-columns .ensures .long, word-long (wordOf w) mostKeys letters keys (code " ")), at .pre .1))
     (λ c. search needs)
     (λ c.
-    let decided = c .before .before .before .before .before .before .before .before .before .before in
-    let found = decided .before .before .before in
-    let judged = found .before in
-    let made = judged .before .before in
-    let at = made .before .before .before .before .before .before .before in
-    let w = at .args .w in
-    let text = text-made w (at .pre .1) (made .in-room .result) _ (lit≤ tt) (made .in-room .ensures .0) _ (made .in-room .ensures .1) in
-    as-part
-    (its-line w (at .pre .1) _ _ _ _ text (judged .verdict .ensures ∙ its-verdict w (at .pre .1)) (found .tone-place .ensures ∙ its-place w (at .pre .1)) (decided .decided .ensures ∙ its-decision w (at .pre .1) _ (judged .verdict .ensures)))
-    (c .before .before .six-columns .ensures)))
+    let two = c .before .before in
+    let six = two .before .before .before .before in
+    let if = six .before .before in
+    let z = wordOf (if .before .before .args .w) in
+    as-part (sym (ap (λ (b : Bool). wordLineOf b z) (if .if1 .taken) ∙ with-keys z)) (and-then (six .word-columns .ensures) (two .key-columns .ensures)))
+    (λ c κs. search needs)
+    (λ c. search needs)
+    (λ c.
+    let six = c .before .before in
+    let if = six .before .before in
+    let z = wordOf (if .before .before .args .w) in
+    as-part (sym (ap (λ (b : Bool). wordLineOf b z) (if .if1 .left))) (six .word-columns2 .ensures)))

@@ -9,6 +9,18 @@ use Rattle.press.proofs.Shows.{refused-so, did-so}
 use Rattle.press.proofs.press.Statement.{statement}
 use Rattle.press.proofs.press.Tie as tie
 
+-- the arrays have 32 places
+whole : (c : tie.Start) → Whole (c .args .w)
+whole c =
+    let w = c .args .w in
+    let fields = c .good .0 .1 .1 in
+    record {
+      letters = length-unmapped _ (w .letters) mostKeys (fields .1 .0 .1 .0 .1);
+      by = length-unmapped _ (w .«appended_by») mostKeys (fields .1 .1 .0 .1 .0 .1);
+      shaped-by = length-unmapped _ (w .«shaped_by») mostKeys (fields .1 .1 .1 .0 .1 .0 .1);
+      keys = length-unmapped _ (w .keys) mostKeys (fields .1 .1 .1 .1 .1 .1 .1 .1 .0 .1 .0 .1);
+    }
+
 pub press-spec : {M : Type 1} → statement M
 press-spec =
     tie.close
@@ -23,8 +35,7 @@ press-spec =
     let stepped = known .before .before in
     let start = stepped .before .before in
     let w = start .args .w in
-    let whole : Whole w = record { letters = length-unmapped _ (w .letters) mostKeys (start .good .0 .1 .1 .1 .0 .1 .0 .1); keys = length-unmapped _ (w .keys) mostKeys (start .good .0 .1 .1 .1 .1 .1 .1 .1 .0 .1 .0 .1) } in
-    let so = did-so w (start .args .key) (start .args .out .now) (stepped .step .result) (stepped .step .ensures) whole (known .answer .given .0 .0) (known .answer .given .1) in
+    let so = did-so w (start .args .key) (start .args .out .now) (stepped .step .result) (stepped .step .ensures) (whole start) (known .answer .given .0 .0) (known .answer .given .1) in
     omega (arith, few-letters (stepped .step .result .word) (so .range), so .long))
     (λ c κs. search needs)
     (λ c. search needs)
@@ -38,8 +49,7 @@ press-spec =
     let stepped = known .before .before in
     let start = stepped .before .before in
     let w = start .args .w in
-    let whole : Whole w = record { letters = length-unmapped _ (w .letters) mostKeys (start .good .0 .1 .1 .1 .0 .1 .0 .1); keys = length-unmapped _ (w .keys) mostKeys (start .good .0 .1 .1 .1 .1 .1 .1 .1 .0 .1 .0 .1) } in
-    let so = did-so w (start .args .key) (start .args .out .now) (stepped .step .result) (stepped .step .ensures) whole (known .answer .given .0 .0) (known .answer .given .1) in
+    let so = did-so w (start .args .key) (start .args .out .now) (stepped .step .result) (stepped .step .ensures) (whole start) (known .answer .given .0 .0) (known .answer .given .1) in
     (so .result _ (sym (wrote .text .ensures .0) ∙ told .bytes .given .1), wrote .text .ensures .1 ∙ so .output))
     (λ c. search needs)
     (λ c.
@@ -49,8 +59,7 @@ press-spec =
     let stepped = known .before .before in
     let start = stepped .before .before in
     let w = start .args .w in
-    let whole : Whole w = record { letters = length-unmapped _ (w .letters) mostKeys (start .good .0 .1 .1 .1 .0 .1 .0 .1); keys = length-unmapped _ (w .keys) mostKeys (start .good .0 .1 .1 .1 .1 .1 .1 .1 .0 .1 .0 .1) } in
-    let so = did-so w (start .args .key) (start .args .out .now) (stepped .step .result) (stepped .step .ensures) whole (known .answer .given .0 .0) (known .answer .given .1) in
+    let so = did-so w (start .args .key) (start .args .out .now) (stepped .step .result) (stepped .step .ensures) (whole start) (known .answer .given .0 .0) (known .answer .given .1) in
     (so .result _ (sym (wrote .text .ensures .0) ∙ told .refusal .given .1), wrote .text .ensures .1 ∙ so .output))
     (λ c.
     let known = c .before in

@@ -1,11 +1,9 @@
--- `show::show` meets its contract: refused, or the text of its letters written.
-use mathlib.Core.Path.{_≡_, sym, ap, _∙_}
-use native.Mathlib.Omega.{arith}
-use lib.ListN.{length}
+-- `show::show` meets its contract: the record's own arrays are lent.
+use mathlib.Core.Path.{ap, _∙_}
 use borrow.Author.Needs.{needs}
-use Rattle.rules.specs.WhatComesBack.{Written}
-use Rattle.rules.proofs.Range.{few-letters}
-use Rattle.show.proofs.Answers.{refused, shown-so}
+use Rattle.rules.specs.WhatComesBack.{Written, show}
+use Rattle.records.specs.declared.Numbers.{Numbers}
+use Rattle.records.specs.Numbers.{wordIn}
 use Rattle.show.proofs.show.Statement.{statement}
 use Rattle.show.proofs.show.Tie as tie
 
@@ -14,23 +12,12 @@ show-spec =
     tie.close
     (tie.spec
     (λ c κs. search needs)
-    (λ c.
-    let args = c .before .before .before .args in
-    let e = refused (args .w) (args .out .now) (sym (c .before .out-of-range .ensures) ∙ c .if1 .taken) in
-    (sym (ap (λ (x : Written). x .answer) e), sym (ap (λ (x : Written). x .output) e)))
-    (λ c. search needs)
-    (λ c. search needs)
-    (λ c. search needs)
-    (λ c.
-    let no = c .before .before .before in
-    let w = no .before .before .before .args .w in
-    let e : length (w .letters) ≡ 32 = search needs in
-    omega (arith, few-letters w (sym (no .before .out-of-range .ensures) ∙ no .if1 .left)))
     (λ c κs. search needs)
     (λ c. search needs)
     (λ c.
     let wrote = c .before .before in
-    let no = wrote .before .before .before .before .before .before in
-    let args = no .before .before .before .args in
-    let same = shown-so (args .w) (args .out .now) (sym (no .before .out-of-range .ensures) ∙ no .if1 .left) in
-    (wrote .text .ensures .0 ∙ ap (λ (x : Written). x .answer) same, wrote .text .ensures .1 ∙ ap (λ (x : Written). x .output) same)))
+    let numbers = wrote .before .before in
+    let args = numbers .before .before .before .before .before .before .before .before .before .before .args in
+    let w = args .w in
+    let same = ap (λ (n : Numbers). show (wordIn (w .mode) (w .letters) (w .«appended_by») (w .«shaped_by») (w .keys) (w .«toned_by») n) (args .out .now)) (numbers .numbers-of .ensures) in
+    (wrote .show-in .ensures .0 ∙ ap (λ (x : Written). x .answer) same, wrote .show-in .ensures .1 ∙ ap (λ (x : Written). x .output) same)))

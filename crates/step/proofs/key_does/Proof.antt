@@ -60,7 +60,7 @@ key-does-spec =
     (λ c κs.
     let horn = c .before .before .before in
     let at = horn .before .before .before .before .before .before .before in
-    room-then (at .args .letters .now) (at .args .rest) (letterOfKey (at .args .key)) _ (horn .second-horn .ensures) (at .pre .0))
+    room-then (at .args .letters .now) (at .args .rest) (letterOfKey (at .args .key)) _ _ (horn .second-horn .ensures) (at .pre .0))
     (λ c. search needs)
     (λ c.
     let known = c .before .before .before .before .before in
@@ -88,4 +88,4 @@ key-does-spec =
     let role = known .before .before in
     let at = role .before .before .before in
     as-ruled (by-role (at .args .letters .now) (at .args .rest) (at .args .mode) (at .args .key) (role .role-in .ensures) (known .enum-told2 .given .1))
-    (horn-then (at .args .letters .now) (at .args .rest) (letterOfKey (at .args .key)) _ (horn .second-horn .ensures) (at .pre .0) (c .before .before .appended .ensures))))
+    (horn-then (at .args .letters .now) (at .args .rest) (letterOfKey (at .args .key)) _ _ (horn .second-horn .ensures) (at .pre .0) (c .before .before .appended .ensures))))

@@ -56,6 +56,12 @@ second-horn-spec =
     u-inside l (at .args .rest) (at .pre) (asked-of-part l (at .args .rest) (asked .awaits-second-horn .ensures) (not-false _ (open-word .if1 .left))) .0)
     (λ c. search needs)
     (λ c. search needs)
+    (λ c.
+    let still-open = c .before .before .before .before .before .before in
+    let asked = still-open .before .before in
+    let at = asked .before .before .before .before .before in
+    let l = at .args .letters .now in
+    u-inside l (at .args .rest) (at .pre) (asked-of-part l (at .args .rest) (asked .awaits-second-horn .ensures) (not-false _ (still-open .before .if1 .left))) .0)
     (λ c. search needs)
     (λ c.
     let asks = c .before .before .before in

@@ -17,5 +17,7 @@ step-spec =
     (λ c κs. search needs)
     (λ c.
     let told = c .before .before in
-    let args = told .before .before .before .before .before .before .args in
-    ap (λ (w : Word). record { answer = told .step-in .result .answer; word = w }) (c .word-in .ensures) ∙ told .step-in .ensures ∙ ap (λ (n : Numbers). step (wordIn (args .w .mode) (args .w .letters) (args .w .keys) n) (args .key)) (told .before .numbers-of .ensures)))
+    let args = told .before .before .before .before .before .before .before .before .before .before .before .args in
+    let w = args .w in
+    ap (λ (v : Word). record { answer = told .step-in .result .answer; word = v }) (c .word-in .ensures) ∙ told .step-in .ensures ∙
+    ap (λ (n : Numbers). step (wordIn (w .mode) (w .letters) (w .«appended_by») (w .«shaped_by») (w .keys) (w .«toned_by») n) (args .key)) (told .before .numbers-of .ensures)))

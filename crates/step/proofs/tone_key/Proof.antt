@@ -3,8 +3,9 @@ use mathlib.Core.Path.{sym, ap, subst, _∙_}
 use mathlib.Core.Bool.{true, false}
 use borrow.Author.Needs.{needs}
 use Rattle.rules.specs.Letters.{noTone}
-use Rattle.rules.specs.TheWord.{appended, undone as undoneWith}
+use Rattle.rules.specs.TheWord.{undone as undoneWith}
 use Rattle.rules.specs.KeyRoles.{letterOfKey, undo, toneGoes, toneDoes}
+use Rattle.rules.specs.declared.Touched.the-variants.{NoLetter}
 use Rattle.rules.specs.declared.ToneKey.{ToneKey}
 use Rattle.rules.specs.declared.Act.the-variants.{Tone, Clear}
 use Rattle.step.specs.declared.Rest.{Rest}
@@ -30,14 +31,14 @@ tone-key-spec =
     let at = told .before .before .before in
     let s = stateIn (at .args .letters .now) (at .args .rest) in
     let k = letterOfKey (at .args .key) in
-    as-ruled (ap (λ (r : ToneKey). toneDoes r s k) (told .enum-told .given .1) ∙ clear-none s k (yes .if1 .taken) ∙ ap appended (plainly s k (at .pre .1))) (c .before .before .appended .ensures))
+    as-ruled (ap (λ (r : ToneKey). toneDoes r s k) (told .enum-told .given .1) ∙ clear-none s k (yes .if1 .taken) ∙ plainly s k (at .pre .1)) (c .before .before .appended .ensures))
     (λ c κs. search needs)
     (λ c.
     let told = c .before .before in
     let at = told .before .before .before in
     let s = stateIn (at .args .letters .now) (at .args .rest) in
     let k = letterOfKey (at .args .key) in
-    as-ruled (ap (λ (r : ToneKey). toneDoes r s k) (told .enum-told .given .1) ∙ clear-acts s k (c .before .if1 .left)) (as-acted Clear (tones (at .args .letters .now) (at .args .rest) (at .pre .0 .given) noTone (c .with-tone .ensures))))
+    as-ruled (ap (λ (r : ToneKey). toneDoes r s k) (told .enum-told .given .1) ∙ clear-acts s k (c .before .if1 .left)) (as-acted Clear NoLetter (tones (at .args .letters .now) (at .args .rest) (at .pre .0 .given) noTone (c .with-tone .ensures))))
     (λ c κs. search needs)
     (λ c κs.
     let at = c .before .before .before .before .before .before .before in
@@ -51,7 +52,7 @@ tone-key-spec =
     let l = at .args .letters .now in
     let s = stateIn (at .args .letters .now) (at .args .rest) in
     let k = letterOfKey (at .args .key) in
-    as-ruled (ap (λ (r : ToneKey). toneDoes r s k) (role .role .given .1) ∙ tone-undone s k (role .role .given .0 .0) (yes .if2 .taken) ∙ sym (ap (λ (r : Rest). undoneWith (undo (stateIn l r) k)) (set .with-tone2 .ensures))) (c .before .before .undone .ensures))
+    as-ruled (ap (λ (r : ToneKey). toneDoes r s k) (role .role .given .1) ∙ tone-undone s k (role .role .given .0 .0) (yes .if2 .taken) ∙ sym (ap (λ (r : Rest). undoneWith NoLetter (undo (stateIn l r) k)) (set .with-tone2 .ensures))) (c .before .before .undone .ensures))
     (λ c. search needs)
     (λ c. search needs)
     (λ c. search needs)
@@ -67,7 +68,7 @@ tone-key-spec =
     let t = role .role .given .0 .0 in
     let s = stateIn (at .args .letters .now) (at .args .rest) in
     let k = letterOfKey (at .args .key) in
-    as-ruled (ap (λ (r : ToneKey). toneDoes r s k) (role .role .given .1) ∙ tone-not-there s k t true (no .if2 .left) (sym (goes .takes-tone .ensures ∙ sym (ap (toneGoes t) (is-front (at .args .letters .now) (at .args .rest .count)))) ∙ c .before .if3 .taken)) (as-acted (Tone t) (tones (at .args .letters .now) (at .args .rest) (at .pre .0 .given) t (c .with-tone3 .ensures))))
+    as-ruled (ap (λ (r : ToneKey). toneDoes r s k) (role .role .given .1) ∙ tone-not-there s k t true (no .if2 .left) (sym (goes .takes-tone .ensures ∙ sym (ap (toneGoes t) (is-front (at .args .letters .now) (at .args .rest .count)))) ∙ c .before .if3 .taken)) (as-acted (Tone t) NoLetter (tones (at .args .letters .now) (at .args .rest) (at .pre .0 .given) t (c .with-tone3 .ensures))))
     (λ c κs. search needs)
     (λ c. search needs)
     (λ c.
@@ -79,4 +80,4 @@ tone-key-spec =
     let t = role .role .given .0 .0 in
     let s = stateIn (at .args .letters .now) (at .args .rest) in
     let k = letterOfKey (at .args .key) in
-    as-ruled (ap (λ (r : ToneKey). toneDoes r s k) (role .role .given .1) ∙ tone-not-there s k t false (no .if2 .left) (sym (goes .takes-tone .ensures ∙ sym (ap (toneGoes t) (is-front (at .args .letters .now) (at .args .rest .count)))) ∙ asked .if3 .left) ∙ ap appended (plainly s k (at .pre .1))) (c .before .before .appended2 .ensures)))
+    as-ruled (ap (λ (r : ToneKey). toneDoes r s k) (role .role .given .1) ∙ tone-not-there s k t false (no .if2 .left) (sym (goes .takes-tone .ensures ∙ sym (ap (toneGoes t) (is-front (at .args .letters .now) (at .args .rest .count)))) ∙ asked .if3 .left) ∙ plainly s k (at .pre .1)) (c .before .before .appended2 .ensures)))

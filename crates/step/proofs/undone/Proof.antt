@@ -10,4 +10,4 @@ undone-spec =
     (tie.spec
     (λ c κs. search needs)
     (λ c. search needs)
-    (λ c. as-undone (c .before .before .append .ensures)))
+    (λ c. as-undone (c .before .before .before .before .before .args .touched) (c .before .before .append .ensures)))

@@ -18,6 +18,9 @@ header-spec =
     (λ c. search needs)
     (λ c κs. search needs)
     (λ c. search needs)
+    (λ c. search needs)
+    (λ c κs. search needs)
+    (λ c. search needs)
     (λ c.
     let told = c .before .before .before .before .before .enum-told .given .1 in
     let out = c .before .before .before .before .before .before .before .before .args .out .now in
@@ -28,4 +31,10 @@ header-spec =
     let told = c .before .before .before .before .before .enum-told2 .given .1 in
     let out = c .before .before .before .before .before .before .before .before .args .out .now in
     let e = c .before .before .write2 .ensures in
+    (e .0 ∙ sym (ap (λ (p : Program). put (headerOf p) out .answer) told), e .1 ∙ sym (ap (λ (p : Program). put (headerOf p) out .output) told)))
+    (λ c. search needs)
+    (λ c.
+    let told = c .before .before .before .before .before .enum-told3 .given .1 in
+    let out = c .before .before .before .before .before .before .before .before .args .out .now in
+    let e = c .before .before .write3 .ensures in
     (e .0 ∙ sym (ap (λ (p : Program). put (headerOf p) out .answer) told), e .1 ∙ sym (ap (λ (p : Program). put (headerOf p) out .output) told))))

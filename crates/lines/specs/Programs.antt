@@ -2,9 +2,10 @@
 use mathlib.Core.Bool.{Bool, true, false}
 use mathlib.Core.List.{List, []}
 use Prim.Native.Nat.{ℕ}
+use Prim.Native.Char.{code}
 use Rattle.rules.specs.WhatComesBack.{Written}
 use Rattle.rules.specs.TheWord.{Typed}
-use Rattle.rules.specs.Drill.{header, keyHeader, wordLine, wordLineWithKeys, answerLine, answerLineWithKeys}
+use Rattle.rules.specs.Drill.{newline, header, keyHeader, wordLine, wordLineWithKeys, answerLine, answerLineWithKeys}
 use Rattle.rules.specs.SpellProgram.{spellLine}
 use Rattle.output.specs.Front.{put}
 use Rattle.lines.specs.declared.Program.{Program}
@@ -14,6 +15,11 @@ use Rattle.lines.specs.declared.Program.the-variants.{Drill, DrillWithKe
 abbrev pub wordLineOf : Bool → Typed → List ℕ
 wordLineOf true = wordLineWithKeys
 wordLineOf false = wordLine
+
+-- what ends the six columns: a space where the places follow, else a newline
+abbrev pub sixEnd : Bool → ℕ
+sixEnd true = code " "
+sixEnd false = newline
 
 abbrev pub answerOf : Program → List ℕ → List ℕ
 answerOf Drill line = answerLine line

@@ -10,7 +10,7 @@ ghost use Rattle.rules.specs.Refusals.{outOfRange};
 ghost use Rattle.rules.specs.Drill.{decimal, orHyphen, placeColumn, decisionColumn, columns, wordColumns, refusedLine, keysLine, modeOf, placeOrHyphen, letterPlace, letterPlaces, keyColumns};
 ghost use Rattle.rules.specs.SpellProgram.{spelledLine};
 ghost use Rattle.lines.specs.Appending.{Appends, endedBy, mostInLine, SmallPlace};
-ghost use Rattle.lines.specs.Programs.{wordLineOf, answerOf, lineAnswer};
+ghost use Rattle.lines.specs.Programs.{wordLineOf, sixEnd, answerOf, lineAnswer};
 use rules::Decision;
 use rules::Place;
 use rules::Refusal;
@@ -213,16 +213,27 @@ fn key_columns(text: &mut [u8], at: usize, w: Word) -> usize
     key_column(text, next, w.toned_by, NEWLINE)
 }
 
-// The line of a word in range, with the places of its keys or without.
+// What ends the six columns: a newline, or a space where the places of the keys follow.
+fn six_end(keyed: bool) -> u8
+    ensures { λ r. ⌜ r ≡ sixEnd keyed ⌝ }
+{
+    if keyed {
+        return SPACE;
+    }
+    NEWLINE
+}
+
+// The line of a word in range, with the places of its keys or without. The six columns are written at one place in
+// the code, so that the compiler keeps them in line.
 fn word_line(text: &mut [u8], w: Word, keyed: bool) -> usize
     requires { ⌜ (mostInLine ≤ length (now text)) × (outOfRange w ≡ false) ⌝ }
     ensures { λ r. ⌜ Appends (now (text .entry)) (now (text .exit)) 0 r (wordLineOf keyed (wordOf w)) ⌝ }
 {
+    let next = word_columns(text, w, six_end(keyed));
     if keyed {
-        let next = word_columns(text, w, SPACE);
         return key_columns(text, next, w);
     }
-    word_columns(text, w, NEWLINE)
+    next
 }
 
 // The line of a refusal: `!`, its number and the number returned.

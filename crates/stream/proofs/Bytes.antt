@@ -87,13 +87,15 @@ module _ (s : Begun) (b : ℕ) (out : List ℕ) (at : ℕ) (inside : at ≤ leng
   abbrev fed : ByteFed
   fed = byteFed s b left
 
-  -- what the step and the output are
-  pub record Stepped (r : AfterByte) (after : List ℕ) : Type 0 where
+  -- what the step, the line and the output are
+  pub record Stepped (r : AfterByte) (held after : List ℕ) : Type 0 where
     pub step : r ≡ byteDone at fed
+    pub line : held ≡ fed .state .line
     pub output : after ≡ putAt at (fed .text) out
 
-  stepped : (f : ByteFed) (r : AfterByte) (after : List ℕ) → fed ≡ f → r ≡ byteDone at f → after ≡ putAt at (f .text) out → Stepped r after
-  stepped f r after e p q = record { step = p ∙ ap (byteDone at) (sym e); output = q ∙ ap (λ (g : ByteFed). putAt at (g .text) out) (sym e) }
+  stepped : (f : ByteFed) (r : AfterByte) (held after : List ℕ) → fed ≡ f → r ≡ byteDone at f → held ≡ f .state .line → after ≡ putAt at (f .text) out → Stepped r held after
+  stepped f r held after e p l q =
+      record { step = p ∙ ap (byteDone at) (sym e); line = l ∙ ap (λ (g : ByteFed). g .state .line) (sym e); output = q ∙ ap (λ (g : ByteFed). putAt at (g .text) out) (sym e) }
 
   nothing-put : out ≡ putAt at [] out
   nothing-put = sym (take-append-drop at out)
@@ -107,13 +109,13 @@ module _ (s : Begun) (b : ℕ) (out : List ℕ) (at : ℕ) (inside : at ≤ leng
   as-it-was : (part : List ℕ) → part ≡ take left (drop at out) → take at out ++ (part ++ drop left (drop at out)) ≡ putAt at [] out
   as-it-was part e = ap (λ (l : List ℕ). take at out ++ (l ++ drop left (drop at out))) (e ∙ whole) ∙ ap (λ (l : List ℕ). take at out ++ (drop at out ++ l)) behind ∙ ap (λ (l : List ℕ). take at out ++ l) (append-nil (drop at out))
 
-  pub is-kept : (b ≡ newline → ⊥) → (x : Begun) → x ≡ kept s b → Stepped (record { state = x; at = at; stuck = false }) out
+  pub is-kept : (b ≡ newline → ⊥) → (x : Begun) → x ≡ kept s b → Stepped (record { length = x .length; at = at; stuck = false }) (x .line) out
   unfolding byteFed
   is-kept h x e =
       let f : ByteFed = record { state = kept s b; text = []; stuck = false } in
       let m : at ≡ at + 0 = omega arith in
-      stepped f (record { state = x; at = at; stuck = false }) out (ap (λ (c : Bool). byteIf c (leb (length (answerNow s)) left) s b) (ne-eqb b newline h))
-      (ap₂ (λ (y : Begun) (k : ℕ). record { state = y; at = k; stuck = false }) e m) nothing-put
+      stepped f (record { length = x .length; at = at; stuck = false }) (x .line) out (ap (λ (c : Bool). byteIf c (leb (length (answerNow s)) left) s b) (ne-eqb b newline h))
+      (ap₂ (λ (y : Begun) (k : ℕ). record { length = y .length; at = k; stuck = false }) e m) (ap (λ (y : Begun). y .line) e) nothing-put
 
   module _ (nl : b ≡ newline) (line part : List ℕ) (l : line ≡ lineOf s) where
     room-there : length (take left (drop at out)) ≡ left
@@ -124,24 +126,24 @@ module _ (s : Begun) (b : ℕ) (out : List ℕ) (at : ℕ) (inside : at ≤ leng
     newlined fit e = ap₂ (λ (c d : Bool). byteIf c d s b) (eq-eqb b newline nl) (ap₂ (λ (k : List ℕ) (n : ℕ). leb (length (answerOf (s .program) k)) n) (sym l) (sym room-there) ∙ e)
 
     pub is-stuck : (x : Refusal) → lineAnswer (s .program) line (take left (drop at out)) .answer ≡ Refused x → part ≡ lineAnswer (s .program) line (take left (drop at out)) .output
-        → Stepped (record { state = s; at = at; stuck = true }) (take at out ++ (part ++ drop left (drop at out)))
+        → Stepped (record { length = s .length; at = at; stuck = true }) (s .line) (take at out ++ (part ++ drop left (drop at out)))
     is-stuck x a p =
         let no = no-room (answerOf (s .program) line) (take left (drop at out)) x a in
         let f : ByteFed = record { state = s; text = []; stuck = true } in
         let m : at ≡ at + 0 = omega arith in
-        stepped f (record { state = s; at = at; stuck = true }) (take at out ++ (part ++ drop left (drop at out))) (newlined false (no .test))
-        (ap (λ (k : ℕ). record { state = s; at = k; stuck = true }) m) (as-it-was part (p ∙ no .output))
+        stepped f (record { length = s .length; at = at; stuck = true }) (s .line) (take at out ++ (part ++ drop left (drop at out))) (newlined false (no .test))
+        (ap (λ (k : ℕ). record { length = s .length; at = k; stuck = true }) m) refl (as-it-was part (p ∙ no .output))
 
     pub is-answered : (n : ℕ) → lineAnswer (s .program) line (take left (drop at out)) .answer ≡ Wrote n → part ≡ lineAnswer (s .program) line (take left (drop at out)) .output
-        → Stepped (record { state = ended s; at = at + n; stuck = false }) (take at out ++ (part ++ drop left (drop at out)))
+        → Stepped (record { length = 0; at = at + n; stuck = false }) (s .line) (take at out ++ (part ++ drop left (drop at out)))
     is-answered n a p =
         let yes = room (answerOf (s .program) line) (take left (drop at out)) n a in
         let text = answerNow s in
         let f : ByteFed = record { state = ended s; text = text; stuck = false } in
         let long : n ≡ length text = yes .many ∙ ap (λ (k : List ℕ). length (answerOf (s .program) k)) l in
         let front : part ≡ atFront text (drop at out) = p ∙ yes .output ∙ ap₂ (λ (k o : List ℕ). atFront (answerOf (s .program) k) o) l whole in
-        stepped f (record { state = ended s; at = at + n; stuck = false }) (take at out ++ (part ++ drop left (drop at out))) (newlined true (yes .test))
-        (ap (λ (k : ℕ). record { state = ended s; at = at + k; stuck = false }) long)
+        stepped f (record { length = 0; at = at + n; stuck = false }) (s .line) (take at out ++ (part ++ drop left (drop at out))) (newlined true (yes .test))
+        (ap (λ (k : ℕ). record { length = 0; at = at + k; stuck = false }) long) refl
         (ap₂ (λ (x y : List ℕ). take at out ++ (x ++ y)) front behind ∙ ap (λ (x : List ℕ). take at out ++ x) (append-nil (atFront text (drop at out))))
 
     pub fits-there : (n : ℕ) → lineAnswer (s .program) line (take left (drop at out)) .answer ≡ Wrote n → at + n ≤ length out

@@ -5,12 +5,12 @@ use mathlib.Core.List.{List, [], _++_, append-nil, append-assoc}
 use Prim.Native.Nat.{ℕ, suc, _+_, _-_, _≤_, _<_}
 use native.Mathlib.Omega.{arith}
 use borrow.Author.Tests.{leb-true}
-use lib.Dec.{eqb, leb}
+use lib.Dec.{eqb, leb, ltb}
 use lib.ListN.{length, take, drop, getD, length-append, length-take, length-drop, take-append-drop, drop-of-length-le}
 use lib.Seq.{drop-cons, drop-drop, take-at, drop-at, length-take-le}
 use Rattle.rules.specs.TheWord.{atFront}
 use Rattle.rules.specs.Drill.{newline}
-use Rattle.stream.specs.Feeding.{answerNow, ByteFed, byteIf, byteFed, Feeding, stopped, after, feeding, putAt, byteDone, fedOf}
+use Rattle.stream.specs.Feeding.{mostKept, begunOf, answerNow, keptIf, kept, ByteFed, byteIf, byteFed, Feeding, stopped, after, feeding, putAt, byteDone, fedOf}
 use Rattle.stream.specs.declared.Begun.{Begun}
 use Rattle.stream.specs.declared.AfterByte.{AfterByte}
 use Rattle.stream.specs.declared.Fed.{Fed}
@@ -25,15 +25,29 @@ text-fits s b room = go (eqb b newline) (leb (length (answerNow s)) room) refl
     go true true d = leb-true (length (answerNow s)) room d
     go true false d = omega arith
 
--- and where it is stuck it writes nothing
-stuck-nothing : (s : Begun) (b room : ℕ) → byteFed s b room .stuck ≡ true → byteFed s b room .text ≡ []
+-- and where it is stuck it writes nothing, and the state is as it was
+stuck-nothing : (s : Begun) (b room : ℕ) → byteFed s b room .stuck ≡ true → byteFed s b room ≡ record { state = s; text = []; stuck = true }
 unfolding byteFed
 stuck-nothing s b room = go (eqb b newline) (leb (length (answerNow s)) room)
   where
-    go : (e f : Bool) → byteIf e f s b .stuck ≡ true → byteIf e f s b .text ≡ []
-    go false f d = refl
+    go : (e f : Bool) → byteIf e f s b .stuck ≡ true → byteIf e f s b ≡ record { state = s; text = []; stuck = true }
+    go false f d = let z : _≡_ {A = ℕ} 0 1 = cc in absurd (omega arith)
     go true true d = let z : _≡_ {A = ℕ} 0 1 = cc in absurd (omega arith)
     go true false d = refl
+
+-- the program stays
+same-program : (s : Begun) (b room : ℕ) → byteFed s b room .state .program ≡ s .program
+unfolding byteFed kept
+same-program s b room = go (eqb b newline) (leb (length (answerNow s)) room)
+  where
+    more : (c : Bool) → keptIf c s b .program ≡ s .program
+    more true = refl
+    more false = refl
+
+    go : (e f : Bool) → byteIf e f s b .state .program ≡ s .program
+    go false f = more (ltb (s .length) mostKept)
+    go true true = refl
+    go true false = refl
 
 -- a block's next byte: stuck, or the rest after it
 module _ (s : Begun) (block : List ℕ) (i room : ℕ) (inside : i < length block) where
@@ -94,23 +108,29 @@ module _ (s₀ : Begun) (block : List ℕ) (from : ℕ) (out₀ : List ℕ) wher
     pub at-end : length block ≤ i → Comes s₀ block from out₀ (record { state = s; taken = i; written = at }) out
     at-end h = ends (ap (λ (l : List ℕ). feeding s l left) (drop-of-length-le block h))
 
-    module _ (inside : i < length block) (r : AfterByte) (next : List ℕ) (step : r ≡ byteDone at (byteFed s (getD block i 0) left)) (put : next ≡ putAt at (byteFed s (getD block i 0) left .text) out) where
-      abbrev f : ByteFed
-      f = byteFed s (getD block i 0) left
+    abbrev f : ByteFed
+    f = byteFed s (getD block i 0) left
 
-      pub at-stuck : r .stuck ≡ true → Comes s₀ block from out₀ (record { state = s; taken = i; written = at }) next
+    module _ (inside : i < length block) (r : AfterByte) (line next : List ℕ) (step : r ≡ byteDone at f) (held : line ≡ f .state .line) (put : next ≡ putAt at (f .text) out) where
+      pub at-stuck : r .stuck ≡ true → Comes s₀ block from out₀ (record { state = begunOf (s .program) line (s .length); taken = i; written = at }) next
       at-stuck e =
           let stuck = sym (ap (λ (x : AfterByte). x .stuck) step) ∙ e in
           let last = ends (turn s block i left inside true stuck) in
+          let nothing = stuck-nothing s (getD block i 0) left stuck in
+          let as-was : line ≡ s .line = held ∙ ap (λ (g : ByteFed). g .state .line) nothing in
           record {
-            answer = last .answer;
-            output = put ∙ ap (λ (t : List ℕ). putAt at t out) (stuck-nothing s (getD block i 0) left stuck) ∙ take-append-drop at out ∙ last .output;
+            answer = ap (λ (l : List ℕ). record { state = begunOf (s .program) l (s .length); taken = i; written = at }) as-was ∙ last .answer;
+            output = put ∙ ap (λ (g : ByteFed). putAt at (g .text) out) nothing ∙ take-append-drop at out ∙ last .output;
           }
 
       pub as-long : length next ≡ length out
       as-long = ap length put ∙ simp (length-append, length-take, length-drop) (omega (arith, so .within, text-fits s (getD block i 0) left))
 
-      pub one-more : r .stuck ≡ false → SoFar s₀ block from out₀ next (r .state) (r .at) (i + 1)
+      -- the state after the byte, put together
+      together : begunOf (s .program) line (r .length) ≡ f .state
+      together = λ u. begunOf (sym (same-program s (getD block i 0) left) u) (held u) (step u .length)
+
+      pub one-more : r .stuck ≡ false → SoFar s₀ block from out₀ next (begunOf (s .program) line (r .length)) (r .at) (i + 1)
       one-more e =
           let text = f .text in
           let room = text-fits s (getD block i 0) left in
@@ -131,7 +151,7 @@ module _ (s₀ : Begun) (block : List ℕ) (from : ℕ) (out₀ : List ℕ) wher
             long = as-long ∙ so .long;
             rest = back ∙ ap (drop (length text)) (so .rest) ∙ drop-drop (length text) at out₀ ∙ ap (λ (q : ℕ). drop q out₀) (sym m);
             same =
-                (λ u. after (j u) (front u) (feeding (step u .state) (drop (one u) block) (k u))) ∙
+                (λ u. after (j u) (front u) (feeding (together u) (drop (one u) block) (k u))) ∙
                 ap₂ (λ (q : ℕ) (t : List ℕ). record { state = g .state; taken = q; text = t }) p (append-assoc (take at out) text (g .text)) ∙
                 ap (after (i - from) (take at out)) (sym (turn s block i left inside false (sym (ap (λ (x : AfterByte). x .stuck) step) ∙ e))) ∙ so .same;
           }

@@ -23,6 +23,10 @@ mostKept = 99
 abbrev pub noneBegun : Program → Begun
 noneBegun p = record { program = p; line = replicate mostKept 0; length = 0 }
 
+-- the state that a program, a line and a length are
+abbrev pub begunOf : Program → List ℕ → ℕ → Begun
+begunOf p line n = record { program = p; line = line; length = n }
+
 -- the line that has begun, as far as it is kept
 abbrev pub lineOf : Begun → List ℕ
 lineOf s = take (s .length) (s .line)
@@ -87,7 +91,7 @@ putAt at text out = take at out ++ atFront text (drop at out)
 
 -- what the functions answer
 abbrev pub byteDone : ℕ → ByteFed → AfterByte
-byteDone at f = record { state = f .state; at = at + length (f .text); stuck = f .stuck }
+byteDone at f = record { length = f .state .length; at = at + length (f .text); stuck = f .stuck }
 
 abbrev pub fedOf : ℕ → Feeding → Fed
 fedOf from f = record { state = f .state; taken = from + f .taken; written = length (f .text) }

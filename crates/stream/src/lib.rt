@@ -5,7 +5,8 @@ ghost use lib.ListN.{length, drop};
 ghost use Rattle.rules.specs.TheWord.{atFront};
 ghost use Rattle.output.specs.Front.{put};
 ghost use Rattle.lines.specs.Programs.{headerOf};
-ghost use Rattle.stream.specs.Feeding.{noneBegun, kept as keptOf, byteFed, feeding, putAt, byteDone, fedOf, finishing};
+ghost use Rattle.lines.specs.declared.Program.{Program};
+ghost use Rattle.stream.specs.Feeding.{noneBegun, begunOf, kept, byteFed, feeding, putAt, byteDone, fedOf, finishing};
 use lines::Program;
 use rules::WriteAnswer;
 
@@ -23,9 +24,9 @@ pub struct Fed {
     pub written: usize,
 }
 
-// After one byte: the state, the place in the output behind what is written, and whether there was no room.
+// After one byte: how much of a line has begun, the place in the output behind what is written, and whether there was no room.
 struct AfterByte {
-    state: Begun,
+    length: usize,
     at: usize,
     stuck: bool,
 }
@@ -66,51 +67,47 @@ fn least(a: usize, b: usize) -> usize
     if a < b { a } else { b }
 }
 
-fn kept(state: Begun, b: u8) -> Begun
-    ensures { λ r. ⌜ r ≡ keptOf state b ⌝ }
+fn keep(line: &mut [u8; 99], length: usize, b: u8) -> usize
+    ensures { λ r. ⌜ ((p : Program) → begunOf p (now (line .exit)) r ≡ kept (begunOf p (now (line .entry)) length) b) ⌝ }
 {
-    let length = state.length;
     if length < Begun::MOST {
-        let program = state.program;
-        let mut line = state.line;
         line[length] = b;
-        return Begun {
-            program: program,
-            line: line,
-            length: length + 1,
-        };
+        return length + 1;
     }
-    state
+    length
 }
 
-fn feed_byte(state: Begun, b: u8, out: &mut [u8], at: usize) -> AfterByte
+// One byte, after so many of a line. The line is lent and changed where it lies: a state that is handed on by value is copied each time.
+fn feed_byte(
+    program: Program,
+    line: &mut [u8; 99],
+    begun: usize,
+    b: u8,
+    out: &mut [u8],
+    at: usize,
+) -> AfterByte
     requires { ⌜ at ≤ length (now out) ⌝ }
-    ensures { λ r. ⌜ (r ≡ byteDone at (byteFed state b (length (now (out .entry)) - at))) × (now (out .exit) ≡ putAt at (byteFed state b (length (now (out .entry)) - at) .text) (now (out .entry))) ⌝ }
+    ensures { λ r. ⌜ (r ≡ byteDone at (byteFed (begunOf program (now (line .entry)) begun) b (length (now (out .entry)) - at))) × (now (line .exit) ≡ byteFed (begunOf program (now (line .entry)) begun) b (length (now (out .entry)) - at) .state .line) × (now (out .exit) ≡ putAt at (byteFed (begunOf program (now (line .entry)) begun) b (length (now (out .entry)) - at) .text) (now (out .entry))) ⌝ }
 {
     if b != b'\n' {
         return AfterByte {
-            state: kept(state, b),
+            length: keep(line, begun, b),
             at: at,
             stuck: false,
         };
     }
-    let program = state.program;
-    let line = state.line;
-    let n = least(state.length, Begun::MOST);
-    let answer = lines::answer_line(program, &line[0..n], &mut out[at..]);
+    let n = least(begun, Begun::MOST);
+    let held = &line[..];
+    let answer = lines::answer_line(program, &held[0..n], &mut out[at..]);
     let WriteAnswer::Wrote(written) = answer else {
         return AfterByte {
-            state: state,
+            length: begun,
             at: at,
             stuck: true,
         };
     };
     AfterByte {
-        state: Begun {
-            program: program,
-            line: line,
-            length: 0,
-        },
+        length: 0,
         at: at + written,
         stuck: false,
     }
@@ -120,24 +117,34 @@ fn feed_byte(state: Begun, b: u8, out: &mut [u8], at: usize) -> AfterByte
 pub fn feed(state: Begun, block: &[u8], from: usize, out: &mut [u8]) -> Fed
     ensures { λ r. ⌜ (r ≡ fedOf from (feeding state (drop from (now (block .entry))) (length (now (out .entry))))) × (now (out .exit) ≡ atFront (feeding state (drop from (now (block .entry))) (length (now (out .entry))) .text) (now (out .entry))) ⌝ }
 {
-    let mut s = state;
+    let program = state.program;
+    let mut line = state.line;
+    let mut length = state.length;
     let mut at = 0;
     let mut i = from;
     while i < block.len() {
-        let step = feed_byte(s, block[i], out, at);
+        let step = feed_byte(program, &mut line, length, block[i], out, at);
         if step.stuck {
             return Fed {
-                state: s,
+                state: Begun {
+                    program: program,
+                    line: line,
+                    length: length,
+                },
                 taken: i,
                 written: at,
             };
         }
-        s = step.state;
+        length = step.length;
         at = step.at;
         i += 1;
     }
     Fed {
-        state: s,
+        state: Begun {
+            program: program,
+            line: line,
+            length: length,
+        },
         taken: i,
         written: at,
     }

@@ -15,7 +15,6 @@ use Rattle.rules.specs.declared.Word.{Word}
 use Rattle.rules.specs.declared.Refusal.{Refusal}
 use Rattle.rules.specs.declared.Start.{Start}
 use Rattle.rules.specs.declared.StartAnswer.{StartAnswer}
-use Rattle.rules.specs.declared.Step.{Step}
 use Rattle.rules.specs.declared.StepAnswer.{StepAnswer}
 use Rattle.rules.specs.declared.StepAnswer.the-variants.{Did as Stepped}
 use Rattle.rules.specs.declared.StepAnswer.the-variants.{Refused as StepRefused}
@@ -31,10 +30,12 @@ use Rattle.rules.specs.declared.DecisionAnswer.{DecisionAnswer}
 use Rattle.rules.proofs.Refused.{refused-show}
 use Rattle.layout.specs.Places.{asRecord, recordWritten}
 use Rattle.layout.specs.declared.RecordRead.{RecordRead}
+use Rattle.step.specs.InPlace.{bytesAfter, stepIf, stepAt}
 use Rattle.press.specs.StepAndShow.{showOr, pressedOr, stepAndShow}
 use Rattle.press.specs.declared.StepShown.{StepShown}
 use Rattle.press.specs.declared.ShownAnswer.{ShownAnswer}
 use Rattle.press.specs.declared.ShownAnswer.the-variants.{Refused as ShownRefused}
+use Rattle.press.proofs.Shows.{refused-so}
 use Rattle.commit.specs.Rulings.{rulingOr, rulingOf}
 use Rattle.commit.specs.Rulings.{decided as ruled}
 use Rattle.commit.specs.declared.Ruling.{Ruling}
@@ -78,6 +79,43 @@ module _ (mode : ℕ) (lent : List ℕ) where
   unfolding Calls.start
   started h s a p q = ap₂ (λ (b : Bool) (x : StartAnswer). ofRecord b (startSays x)) (eq-eqb (length lent) 169 h) (sym (ap (λ (x : Start). x .answer) p) ∙ q)
 
+-- a key typed where the lent bytes lie
+module _ (lent : List ℕ) (key : ℕ) where
+  pub typed : {a x : StepAnswer} → a ≡ stepAt lent key .answer → a ≡ x → Calls.type lent key ≡ stepSays x
+  unfolding Calls.type stepAt
+  typed p q = go (asRecord lent .is_record) ∙ ap stepSays (sym p ∙ q)
+    where
+      go : (b : Bool) → ofRecord b (stepSays (Rules.step (asRecord lent .word) key .answer)) ≡ stepSays (stepIf b (asRecord lent .word) key lent .answer)
+      go true = refl
+      go false = refl
+
+  pub typed-bytes : stepAt lent key .bytes ≡ Calls.typeWord lent key
+  unfolding Calls.type stepAt
+  typed-bytes = go (asRecord lent .is_record)
+    where
+      new : Word
+      new = Rules.step (asRecord lent .word) key .word
+
+      by-answer : (a : StepAnswer) → bytesAfter a new lent ≡ unlessRefused (stepSays a) (recordWritten new lent) lent
+      by-answer (Stepped o) = refl
+      by-answer (StepRefused x) = refl
+
+      go : (b : Bool) → stepIf b (asRecord lent .word) key lent .bytes ≡ unlessRefused (ofRecord b (stepSays (Rules.step (asRecord lent .word) key .answer))) (recordWritten new lent) lent
+      go true = by-answer (Rules.step (asRecord lent .word) key .answer)
+      go false = refl
+
+  -- and shown: where the key is refused
+  pub refused-at : (out : List ℕ) (x : Refusal) → stepAt lent key .answer ≡ StepRefused x → Calls.typeAndShow lent key out ≡ refusing x
+  unfolding Calls.typeAndShow stepAt
+  refused-at out x = go (asRecord lent .is_record)
+    where
+      w : Word
+      w = asRecord lent .word
+
+      go : (b : Bool) → stepIf b w key lent .answer ≡ StepRefused x → ofRecord b (shownSays (stepAndShow w key out .result .answer)) ≡ refusing x
+      go true e = sym (ap (λ (y : StepShown). shownSays (y .answer)) (refused-so w key out (Rules.step w key) refl x e .0))
+      go false e = ap stepSays e
+
 -- calls on a record that is read from the lent bytes
 module _ (lent : List ℕ) (r : RecordRead) (e : r ≡ asRecord lent) where
   none-said : {A : Type 0} (says : A → Says) (f : Word → A) → r .is_record ≡ false → ofRecord (asRecord lent .is_record) (says (f (asRecord lent .word))) ≡ refused 8 0
@@ -86,22 +124,6 @@ module _ (lent : List ℕ) (r : RecordRead) (e : r ≡ asRecord lent) where
   said : {A : Type 0} (says : A → Says) (f : Word → A) → r .is_record ≡ true → (a x : A) → a ≡ f (r .word) → a ≡ x → ofRecord (asRecord lent .is_record) (says (f (asRecord lent .word))) ≡ says x
   said says f t a x p q =
       ap (λ (y : RecordRead). ofRecord (y .is_record) (says (f (y .word)))) (sym e) ∙ ap (λ (b : Bool). ofRecord b (says (f (r .word)))) t ∙ ap says (sym p ∙ q)
-
-  module _ (key : ℕ) where
-    abbrev stepped : Word → StepAnswer
-    stepped w = Rules.step w key .answer
-
-    pub none-typed : r .is_record ≡ false → Calls.type lent key ≡ refused 8 0
-    unfolding Calls.type
-    none-typed n = none-said stepSays stepped n
-
-    module _ (s : Step) (p : s ≡ Rules.step (r .word) key) where
-      pub typed : r .is_record ≡ true → (a : StepAnswer) → s .answer ≡ a → Calls.type lent key ≡ stepSays a
-      unfolding Calls.type
-      typed t a q = said stepSays stepped t (s .answer) a (ap (λ (x : Step). x .answer) p) q
-
-      pub typed-word : recordWritten (s .word) lent ≡ recordWritten (Rules.step (asRecord lent .word) key .word) lent
-      typed-word = ap (λ (x : Step). recordWritten (x .word) lent) (p ∙ ap (λ (y : RecordRead). Rules.step (y .word) key) e)
 
   module _ (key : ℕ) (out : List ℕ) where
     abbrev both : Word → ShownAnswer

@@ -1,5 +1,5 @@
--- A step that is done, and its text made in an output with room for any: what typing and showing comes to.
-use mathlib.Core.Path.{_≡_, sym, ap, _∙_}
+-- A key typed where the lent bytes lie, and the text of the new word made in an output with room for any: what typing and showing comes to.
+use mathlib.Core.Path.{_≡_, refl, sym, ap, ap₂, _∙_}
 use mathlib.Core.List.{List}
 use Prim.Native.Nat.{ℕ, _-_, _≤_}
 use native.Mathlib.Omega.{arith}
@@ -8,38 +8,55 @@ use Rattle.rules.specs.TheWord.{atFront, mostKeys, mostBytes}
 use Rattle.rules.specs.WhatComesBack.{Written, step}
 use Rattle.rules.specs.declared.Word.{Word}
 use Rattle.rules.specs.declared.Outcome.{Outcome}
-use Rattle.rules.specs.declared.Step.{Step}
 use Rattle.rules.specs.declared.StepAnswer.the-variants.{Did as Stepped}
 use Rattle.rules.specs.declared.WriteAnswer.the-variants.{Wrote}
 use Rattle.rules.proofs.Range.{few-letters}
-use Rattle.rules.proofs.StaysInRange.{Whole}
 use Rattle.show.specs.Filling.{roomText}
 use Rattle.show.proofs.Answers.{made-there}
-use Rattle.records.specs.Numbers.{numbersOf, wordIn}
-use Rattle.records.specs.declared.Numbers.{Numbers}
+use Rattle.layout.specs.Places.{asRecord}
+use Rattle.layout.specs.declared.RecordRead.{RecordRead}
+use Rattle.layout.proofs.RoundTrips.{read-whole}
+use Rattle.step.specs.InPlace.{stepAt}
+use Rattle.step.proofs.StepsAt.{was-done, now-held}
 use Rattle.press.specs.StepAndShow.{stepAndShow}
 use Rattle.press.specs.declared.ShownAnswer.the-variants.{Did}
 use Rattle.press.proofs.Shows.{Then, did-so}
 
--- a record's arrays and numbers stepped where they lie: the step of the record
-pub lent-step : (w : Word) (k : ℕ) (s : Step) (n : Numbers) → n ≡ numbersOf w → s ≡ step (wordIn (w .mode) (w .letters) (w .«appended_by») (w .«shaped_by») (w .keys) (w .«toned_by») n) k → s ≡ step w k
-lent-step w k s n p e = e ∙ ap (λ (m : Numbers). step (wordIn (w .mode) (w .letters) (w .«appended_by») (w .«shaped_by») (w .keys) (w .«toned_by») m) k) p
+-- the lent bytes once a key was taken: what is read of them is the new word
+module _ (lent : List ℕ) (key : ℕ) (out : List ℕ) {o : Outcome} (d : stepAt lent key .answer ≡ Stepped o) where
+  abbrev w : Word
+  w = asRecord lent .word
 
-module _ (w : Word) (k : ℕ) (out : List ℕ) (s : Step) (e : s ≡ step w k) (whole : Whole w) (o : Outcome) (d : s .answer ≡ Stepped o) where
-  so : Then w k out s e o
-  so = did-so w k out s e whole o d
+  abbrev new : Word
+  new = step w key .word
 
-  pub within : s .word .count ≤ length (s .word .letters)
-  within = omega (arith, few-letters (s .word) (so .range), so .long)
+  so : Then w key out (step w key) refl o
+  so = did-so w key out (step w key) refl (read-whole lent) o (was-done lent key d)
 
-  abbrev ns : List ℕ
-  ns = take (s .word .count - 0) (s .word .letters)
+  module _ {now : List ℕ} (e : now ≡ stepAt lent key .bytes) {r : RecordRead} (p : r ≡ asRecord now) {letters : List ℕ} (q : letters ≡ asRecord now .word .letters) where
+    word-read : r .word ≡ new
+    word-read = ap (λ (x : RecordRead). x .word) (p ∙ ap asRecord e ∙ now-held lent key d)
 
-  few : length ns ≤ mostKeys
-  few = simp length-take (omega (arith, few-letters (s .word) (so .range)))
+    letters-read : letters ≡ new .letters
+    letters-read = q ∙ ap (λ (x : RecordRead). x .word .letters) (ap asRecord e ∙ now-held lent key d)
 
-  pub with-room : (n : ℕ) (after : List ℕ) → mostBytes ≤ length out → n ≡ length (roomText ns (s .word .tone) out) → after ≡ atFront (roomText ns (s .word .tone) out) out →
-      (record { answer = Did o n; word = s .word } ≡ stepAndShow w k out .result) × (after ≡ stepAndShow w k out .output)
-  with-room n after h many b =
-      let t = made-there ns (s .word .tone) out few n h many after b in
-      (so .result (Wrote n) (ap (λ (x : Written). x .answer) t), sym (ap (λ (x : Written). x .output) t) ∙ so .output)
+    pub within : r .word .count ≤ length letters
+    within =
+        let counts = ap (λ (v : Word). v .count) word-read in
+        let long = ap (λ (l : List ℕ). length l) letters-read in
+        omega (arith, counts, long, few-letters new (so .range), so .long)
+
+    abbrev textOf : Word → List ℕ → List ℕ
+    textOf v l = roomText (take (v .count - 0) l) (v .tone) out
+
+    same-text : textOf (r .word) letters ≡ textOf new (new .letters)
+    same-text = ap₂ textOf word-read letters-read
+
+    few : length (take (new .count - 0) (new .letters)) ≤ mostKeys
+    few = simp length-take (omega (arith, few-letters new (so .range)))
+
+    pub with-room : {n : ℕ} {after : List ℕ} → mostBytes ≤ length out → n ≡ length (textOf (r .word) letters) → after ≡ atFront (textOf (r .word) letters) out →
+        (record { answer = Did o n; word = new } ≡ stepAndShow w key out .result) × (after ≡ stepAndShow w key out .output)
+    with-room {n} {after} h many b =
+        let t = made-there (take (new .count - 0) (new .letters)) (new .tone) out few n h (many ∙ ap (λ (l : List ℕ). length l) same-text) after (b ∙ ap (λ (l : List ℕ). atFront l out) same-text) in
+        (so .result (Wrote n) (ap (λ (x : Written). x .answer) t), sym (ap (λ (x : Written). x .output) t) ∙ so .output)

@@ -3,7 +3,6 @@
 // A word's record is lent as the 169 bytes of crate `layout`; bytes that are no record are refusal 8 with 0. A refused call leaves every lent byte as it was.
 use commit::Ruling;
 use press::ShownAnswer;
-use records::Numbers;
 use rules::Act;
 use rules::Decision;
 use rules::DecisionAnswer;
@@ -18,8 +17,6 @@ use rules::Word;
 use rules::WriteAnswer;
 ghost use mathlib.Core.Path.{_≡_};
 ghost use Rattle.rules.specs.AnswersInNumbers.{outcomeNumbers, placeNumbers, decisionNumber};
-ghost use Rattle.records.specs.Numbers.{wordIn};
-ghost use Rattle.layout.specs.Places.{recordWritten};
 ghost use Rattle.felcantuzza.specs.Calls as Calls;
 
 fn answered(number: usize, value: &mut usize) -> u8
@@ -108,19 +105,9 @@ pub extern "C" fn fz_start(mode: u8, lent: &mut [u8], value: &mut usize) -> u8
 pub extern "C" fn fz_type(lent: &mut [u8], key: u8, value: &mut usize) -> u8
     ensures { λ r. ⌜ (r ≡ Calls.returned (Calls.type (now (lent .entry)) key)) × (now (value .exit) ≡ Calls.valueBy Calls.inOne (Calls.type (now (lent .entry)) key)) × (now (lent .exit) ≡ Calls.typeWord (now (lent .entry)) key) ⌝ }
 {
-    let reading = layout::read(lent);
-    if !reading.is_record {
-        return no_record(value);
-    }
-    let w = reading.word;
-    let stepped = step::step(w, key);
-    let answer = stepped.answer;
+    let answer = step::step_at(lent, key);
     match answer {
-        StepAnswer::Did(outcome) => {
-            let next = stepped.word;
-            layout::write(next, lent);
-            answered(outcome_number(outcome), value)
-        }
+        StepAnswer::Did(outcome) => answered(outcome_number(outcome), value),
         StepAnswer::Refused(refusal) => refused(refusal, value),
     }
 }
@@ -157,26 +144,8 @@ fn type_and_show_short(
     }
 }
 
-// The record of a mode, letters, places of keys, keys and numbers, into a word's bytes.
-fn store(
-    mode: u8,
-    letters: [u16; Word::KEYS],
-    appended_by: [u8; Word::KEYS],
-    shaped_by: [u8; Word::KEYS],
-    keys: [u8; Word::KEYS],
-    toned_by: u8,
-    n: Numbers,
-    lent: &mut [u8],
-)
-    ensures { λ _. ⌜ now (lent .exit) ≡ recordWritten (wordIn mode letters «appended_by» «shaped_by» keys «toned_by» n) (now (lent .entry)) ⌝ }
-{
-    let w = records::word_in(mode, letters, appended_by, shaped_by, keys, toned_by, n);
-    layout::write(w, lent);
-}
-
 // A key typed and the word shown, with one range check; `did` is what the key did, as fz_type's value, and 0 where the call is refused;
-// the value is the bytes written. Refusals: 8, 2, 3, 4. The letters are shown from where the step left them: of a record that is handed back
-// by value they would be copied once more.
+// the value is the bytes written. Refusals: 8, 2, 3, 4. The key is typed where the bytes lie, and of the new word no more is read than is shown.
 #[no_mangle]
 pub extern "C" fn fz_type_and_show(
     lent: &mut [u8],
@@ -190,44 +159,15 @@ pub extern "C" fn fz_type_and_show(
     if out.len() < Word::TEXT {
         return type_and_show_short(lent, key, out, did, value);
     }
-    let reading = layout::read(lent);
-    if !reading.is_record {
-        *did = 0;
-        return no_record(value);
-    }
-    let w = reading.word;
-    let mut letters = w.letters;
-    let mut appended_by = w.appended_by;
-    let mut shaped_by = w.shaped_by;
-    let mut keys = w.keys;
-    let mut toned_by = w.toned_by;
-    let done = step::step_in(
-        &mut letters,
-        &mut appended_by,
-        &mut shaped_by,
-        &mut keys,
-        &mut toned_by,
-        w.mode,
-        records::numbers_of(w),
-        key,
-    );
-    let answer = done.answer;
+    let answer = step::step_at(lent, key);
     match answer {
         StepAnswer::Did(outcome) => {
-            let n = done.numbers;
-            store(
-                w.mode,
-                letters,
-                appended_by,
-                shaped_by,
-                keys,
-                toned_by,
-                n,
-                lent,
-            );
             *did = outcome_number(outcome);
-            let count = n.count as usize;
-            answered(show::in_room(&letters[0..count], n.tone, out), value)
+            let reading = layout::read(lent);
+            let next = reading.word;
+            let letters = layout::letters_of(lent);
+            let count = next.count as usize;
+            answered(show::in_room(&letters[0..count], next.tone, out), value)
         }
         StepAnswer::Refused(refusal) => {
             *did = 0;

@@ -12,6 +12,7 @@ use lib.Seq.{take-length, take-at, drop-at, drop-cons, drop-drop, set-at}
 use Rattle.rules.specs.declared.Word.{Word}
 use Rattle.rules.proofs.StaysInRange.{Whole}
 use Rattle.layout.proofs.Pairs.{length-pairs}
+use Rattle.layout.specs.declared.RecordRead.{RecordRead}
 use Rattle.layout.specs.Places.{pairs, numbers, markByte, byte, part, isLong, isMark, wordFrom, noRecord, recordIf, asRecord, recordWrittenIf, recordWritten}
 
 -- a record with another mark, other arrays and another place of the tone's key
@@ -69,6 +70,9 @@ module _ (bs : List ℕ) where
     pub another-mark : 1 < byte 3 bs → noRecord ≡ asRecord bs
     another-mark h = sym (marked false (no-mark (byte 3 bs) h))
 
+    pub letters-read : byte 3 bs ≤ 1 → numbers (part 40 64 bs) ≡ asRecord bs .word .letters
+    letters-read h = sym (ap (λ (r : RecordRead). r .word .letters) (marked true (is-mark (byte 3 bs) h)))
+
     -- a part copied out
     part-read : {new : List ℕ} (place : ℕ) → place + 32 ≤ 169 → new ≡ copyOf (part place 32 bs) (replicate 32 0) → new ≡ part place 32 bs
     part-read place h e = e ∙ copied 32 (part place 32 bs) (replicate 32 0) (length-part place 32 bs (omega arith))
@@ -97,7 +101,7 @@ eight a b c d e f g h (_ ∷ _ ∷ _ ∷ _ ∷ _ ∷ _ ∷ []) k = absurd (omega
 eight a b c d e f g h (_ ∷ _ ∷ _ ∷ _ ∷ _ ∷ _ ∷ _ ∷ []) k = absurd (omega arith)
 eight a b c d e f g h (_ ∷ _ ∷ _ ∷ _ ∷ _ ∷ _ ∷ _ ∷ _ ∷ l) k = refl
 
-mark-byte : (b : Bool) → boolByte b ≡ markByte b
+pub mark-byte : (b : Bool) → boolByte b ≡ markByte b
 mark-byte true = refl
 mark-byte false = refl
 

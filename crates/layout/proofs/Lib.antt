@@ -1,4 +1,5 @@
 pub mod Pairs
 pub mod Answers
 pub mod RoundTrips
+pub mod InPlace
 pub mod One

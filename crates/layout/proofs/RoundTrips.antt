@@ -14,7 +14,7 @@ use Rattle.rules.specs.Refusals.{all}
 use Rattle.rules.specs.TheWord.{newWord}
 use Rattle.rules.specs.declared.Word.{Word}
 use Rattle.rules.proofs.StaysInRange.{Whole}
-use Rattle.layout.specs.Places.{pairs, numbers, markByte, asBytes, byte, part, isLong, isMark, wordFrom, recordIf, asRecord}
+use Rattle.layout.specs.Places.{pairs, numbers, markByte, bytesWith, asBytes, byte, part, isLong, isMark, wordFrom, recordIf, asRecord}
 use Rattle.layout.proofs.Pairs.{length-numbers, length-pairs}
 use Rattle.layout.proofs.Answers.{withParts, length-part, last-byte, no-mark, eight}
 
@@ -94,21 +94,40 @@ module _ (bs : List ℕ) (long : length bs ≡ 169) where
   in-order : byte 0 bs ∷ byte 1 bs ∷ byte 2 bs ∷ byte 3 bs ∷ byte 4 bs ∷ byte 5 bs ∷ byte 6 bs ∷ byte 7 bs ∷ drop 8 bs ≡ bs
   in-order = sym (eight (byte 0 bs) (byte 1 bs) (byte 2 bs) (byte 3 bs) (byte 4 bs) (byte 5 bs) (byte 6 bs) (byte 7 bs) bs (omega arith)) ∙ simp set-getD
 
+  -- the bytes of the letters as they stand, and all else of the record that is read
+  in-place : isMark (byte 3 bs) ≡ true → bytesWith (part 40 64 bs) (wordFrom bs) ≡ bs
+  in-place m =
+      let head = ap (λ (n : ℕ). byte 0 bs ∷ byte 1 bs ∷ byte 2 bs ∷ n ∷ byte 4 bs ∷ byte 5 bs ∷ byte 6 bs ∷ byte 7 bs ∷ []) (mark-written (byte 3 bs) m) ∙ ap (take 8) in-order in
+      let last = sym (ap (take 1) (last-byte 168 bs long)) in
+      joined bs 168 1 (joined bs 136 32 (joined bs 104 32 (joined bs 40 64 (joined bs 8 32 head refl) refl) refl) refl) last ∙ take-all 169 bs (omega arith)
+
   written-back : isMark (byte 3 bs) ≡ true → T (all isByte bs) → asBytes (wordFrom bs) ≡ bs
   written-back m t =
-      let head = ap (λ (n : ℕ). byte 0 bs ∷ byte 1 bs ∷ byte 2 bs ∷ n ∷ byte 4 bs ∷ byte 5 bs ∷ byte 6 bs ∷ byte 7 bs ∷ []) (mark-written (byte 3 bs) m) ∙ ap (take 8) in-order in
       let letters = pairs-numbers 32 (part 40 64 bs) (length-part 40 64 bs (omega arith)) (all-first 64 (drop 40 bs) (all-past 40 bs t)) in
-      let last = sym (ap (take 1) (last-byte 168 bs long)) in
-      joined bs 168 1 (joined bs 136 32 (joined bs 104 32 (joined bs 40 64 (joined bs 8 32 head refl) letters) refl) refl) last ∙ take-all 169 bs (omega arith)
+      ap (λ (l : List ℕ). bytesWith l (wordFrom bs)) letters ∙ in-place m
+
+-- what holds of every record that is read
+module _ (bs : List ℕ) (P : Word → Type 0) (h : length bs ≡ 169 → isMark (byte 3 bs) ≡ true → P (wordFrom bs)) where
+  of-record : asRecord bs .is_record ≡ true → P (asRecord bs .word)
+  unfolding asRecord
+  of-record r = go (isLong bs) (isMark (byte 3 bs)) refl refl r
+    where
+      go : (l m : Bool) → isLong bs ≡ l → isMark (byte 3 bs) ≡ m → recordIf (l && m) bs .is_record ≡ true → P (recordIf (l && m) bs .word)
+      go true true p q e = h (eqb-true (length bs) 169 p) q
+      go true false p q e = let z : _≡_ {A = ℕ} 0 1 = cc in absurd (omega arith)
+      go false m p q e = let z : _≡_ {A = ℕ} 0 1 = cc in absurd (omega arith)
 
 pub read-written : (bs : List ℕ) → asRecord bs .is_record ≡ true → T (all isByte bs) → asBytes (asRecord bs .word) ≡ bs
-unfolding asRecord
-read-written bs r t = go (isLong bs) (isMark (byte 3 bs)) refl refl r
-  where
-    go : (l m : Bool) → isLong bs ≡ l → isMark (byte 3 bs) ≡ m → recordIf (l && m) bs .is_record ≡ true → asBytes (recordIf (l && m) bs .word) ≡ bs
-    go true true p q e = written-back bs (eqb→eq (length bs) 169 (subst T (sym p) tt)) q t
-    go true false p q e = let z : _≡_ {A = ℕ} 0 1 = cc in absurd (omega arith)
-    go false m p q e = let z : _≡_ {A = ℕ} 0 1 = cc in absurd (omega arith)
+read-written bs r t = of-record bs (λ w. asBytes w ≡ bs) (λ long m. written-back bs long m t) r
+
+pub read-in-place : (bs : List ℕ) → asRecord bs .is_record ≡ true → bytesWith (part 40 64 bs) (asRecord bs .word) ≡ bs
+read-in-place bs r = of-record bs (λ w. bytesWith (part 40 64 bs) w ≡ bs) (in-place bs) r
+
+pub read-parts : (bs : List ℕ) → asRecord bs .is_record ≡ true → asRecord bs .word ≡ wordFrom bs
+read-parts bs r = of-record bs (λ w. w ≡ wordFrom bs) (λ long m. refl) r
+
+pub read-long : (bs : List ℕ) → asRecord bs .is_record ≡ true → length bs ≡ 169
+read-long bs r = of-record bs (λ w. length bs ≡ 169) (λ long m. long) r
 
 -- a record that is read has room for 32 letters, with the places of their keys, and 32 keys
 pub read-whole : (bs : List ℕ) → Whole (asRecord bs .word)

@@ -26,10 +26,13 @@ markByte false = 0
 
 -- 0 mode, 1 count of letters, 2 tone, 3 mark, 4 keys typed, 5 acted, 6 undone, 7 appended, 8 to 39 the keys, 40 to 103 the letters;
 -- 104 to 135 the places of the keys that appended the letters, 136 to 167 of those that shaped them, 168 of the one that set the tone
-abbrev pub asBytes : Word → List ℕ
-asBytes w =
+abbrev pub bytesWith : List ℕ → Word → List ℕ
+bytesWith letters w =
     w .mode ∷ w .count ∷ w .tone ∷ markByte (w .closed) ∷ w .typed ∷ w .acted ∷ w .undone ∷ w .appended ∷
-    w .keys ++ pairs (w .letters) ++ w .«appended_by» ++ w .«shaped_by» ++ w .«toned_by» ∷ []
+    w .keys ++ letters ++ w .«appended_by» ++ w .«shaped_by» ++ w .«toned_by» ∷ []
+
+abbrev pub asBytes : Word → List ℕ
+asBytes w = bytesWith (pairs (w .letters)) w
 
 abbrev pub byte : ℕ → List ℕ → ℕ
 byte place bs = getD bs place 0
@@ -80,3 +83,11 @@ recordWrittenIf false w old = old
 
 unfoldable pub recordWritten : Word → List ℕ → List ℕ
 recordWritten w old = recordWrittenIf (isLong old) w old
+
+-- a buffer of 169 bytes with 32 letters in their place; another, or with another number of letters, is left as it was
+abbrev pub lettersPutIf : Bool → List ℕ → List ℕ → List ℕ
+lettersPutIf true letters old = take 40 old ++ (pairs letters ++ drop 104 old)
+lettersPutIf false letters old = old
+
+unfoldable pub lettersPut : List ℕ → List ℕ → List ℕ
+lettersPut letters old = lettersPutIf (eqb (length letters) 32 && isLong old) letters old

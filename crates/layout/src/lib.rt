@@ -5,7 +5,7 @@
 ghost use mathlib.Core.Path.{_≡_};
 ghost use Prim.Native.Nat.{_+_, _*_, _/_, _%_};
 ghost use lib.ListN.{length};
-ghost use Rattle.layout.specs.Places.{pairs, numbers, isLong, noRecord, asRecord, recordWritten};
+ghost use Rattle.layout.specs.Places.{pairs, numbers, isLong, noRecord, asRecord, recordWritten, lettersPut};
 use rules::Word;
 
 pub const LENGTH: usize = 169;
@@ -57,13 +57,14 @@ fn high(n: u16) -> u8
     (n / 256) as u8
 }
 
-// The bytes of the letters' numbers.
-fn put_letters(letters: &[u16], out: &mut [u8])
+// The bytes of the letters' numbers. The loop goes by the slice's length, so that the compiler puts it into its callers, where the
+// length is known and all are moved at once.
+fn put_pairs(letters: &[u16], out: &mut [u8])
     requires { ⌜ (length (now letters) ≡ 32) × (length (now out) ≡ 64) ⌝ }
     ensures { λ _. ⌜ now (out .exit) ≡ pairs (now (letters .entry)) ⌝ }
 {
     let mut i = 0;
-    while i < Word::KEYS {
+    while i < letters.len() {
         out[2 * i] = low(letters[i]);
         out[2 * i + 1] = high(letters[i]);
         i += 1;
@@ -126,11 +127,36 @@ pub fn write(w: Word, buffer: &mut [u8]) -> bool
     let keys = w.keys;
     bytes::copy(&keys, &mut buffer[8..40]);
     let letters = w.letters;
-    put_letters(&letters, &mut buffer[40..104]);
+    put_pairs(&letters, &mut buffer[40..104]);
     let appended_by = w.appended_by;
     bytes::copy(&appended_by, &mut buffer[104..136]);
     let shaped_by = w.shaped_by;
     bytes::copy(&shaped_by, &mut buffer[136..168]);
     buffer[168] = w.toned_by;
     true
+}
+
+// The letters of the record that bytes are: those of a new word where they are none. Where no more is wanted of a record, all else need not
+// be read.
+pub fn letters_of(buffer: &[u8]) -> [u16; Word::KEYS]
+    ensures { λ r. ⌜ r ≡ asRecord (now (buffer .entry)) .word .letters ⌝ }
+{
+    if buffer.len() != LENGTH {
+        return [0; Word::KEYS];
+    }
+    if 1 < buffer[3] {
+        return [0; Word::KEYS];
+    }
+    letters_in(&buffer[40..104])
+}
+
+// The bytes of 32 letters in their place, and all else as it was. Nothing is written of another number of letters, or where there are not
+// exactly 169 bytes.
+pub fn put_letters(letters: &[u16], buffer: &mut [u8])
+    ensures { λ _. ⌜ now (buffer .exit) ≡ lettersPut (now (letters .entry)) (now (buffer .entry)) ⌝ }
+{
+    if (letters.len() != Word::KEYS) | (buffer.len() != LENGTH) {
+        return;
+    }
+    put_pairs(letters, &mut buffer[40..104]);
 }

@@ -1,5 +1,5 @@
 -- The conditions of refusal 8 in the order in which the code asks them, and one turn of each loop.
-use mathlib.Core.Path.{_≡_, refl, ap, ap₂, sym, _∙_}
+use mathlib.Core.Path.{_≡_, refl, ap, ap₂, sym, subst, _∙_}
 use mathlib.Core.Bool.{Bool, true, false, not, _&&_, _||_}
 use mathlib.Core.List.{List, [], _∷_}
 use Prim.Native.Nat.{ℕ, _+_, _-_, _<_, _≤_}
@@ -152,3 +152,30 @@ module _ (w : Word) {a b : Bool} (nw : a ≡ numbersWrong (w .mode) (numbersOf w
 
       pub by-letters : r ≡ true → {q : Bool} → q ≡ all (isLetter (w .mode)) (take (w .count - 0) (drop 0 (w .letters))) → outOfRange w ≡ not q
       by-letters t l = rw (range-is w, by-both e, front (isKey (w .mode)) (w .keys) (w .typed) k, t, front (isLetter (w .mode)) (w .letters) (w .count) l)
+
+-- the range by the questions, with the record's numbers taken out of it
+module _ (w : Word) (n : Numbers) (numbered : n ≡ numbersOf w) {a b : Bool} (nw : a ≡ numbersWrong (w .mode) n) (pw : b ≡ placesWrong (n .typed) (n .count) (w .«appended_by») (w .«shaped_by») (w .«toned_by»)) where
+  abbrev nw′ : a ≡ numbersWrong (w .mode) (numbersOf w)
+  nw′ = nw ∙ ap (numbersWrong (w .mode)) numbered
+
+  abbrev pw′ : b ≡ placesWrong (w .typed) (w .count) (w .«appended_by») (w .«shaped_by») (w .«toned_by»)
+  pw′ = pw ∙ ap (λ (m : Numbers). placesWrong (m .typed) (m .count) (w .«appended_by») (w .«shaped_by») (w .«toned_by»)) numbered
+
+  pub out-by-numbers : a || b ≡ true → outOfRange w ≡ true
+  out-by-numbers f = by-numbers w nw′ pw′ f
+
+  module _ (f : a || b ≡ false) where
+    pub at-most : (n .typed ≤ mostKeys) × (n .count ≤ mostKeys)
+    at-most = subst (λ (m : Numbers). (m .typed ≤ mostKeys) × (m .count ≤ mostKeys)) (sym numbered) (few w nw′ pw′ f)
+
+    module _ {c : Bool} (ks : c ≡ all (isKey (w .mode)) (take (n .typed - 0) (drop 0 (w .keys)))) where
+      abbrev ks′ : c ≡ all (isKey (w .mode)) (take (w .typed - 0) (drop 0 (w .keys)))
+      ks′ = ks ∙ ap (λ (m : Numbers). all (isKey (w .mode)) (take (m .typed - 0) (drop 0 (w .keys)))) numbered
+
+      pub out-by-keys : c ≡ false → outOfRange w ≡ true
+      out-by-keys g = by-keys w nw′ pw′ f ks′ g
+
+      pub out-by-letters : c ≡ true → {letters : List ℕ} → letters ≡ w .letters → {d : Bool} → d ≡ all (isLetter (w .mode)) (take (n .count - 0) (drop 0 letters)) → outOfRange w ≡ not d
+      out-by-letters g l q =
+          by-letters w nw′ pw′ f ks′ g
+          (q ∙ ap₂ (λ (m : Numbers) (own : List ℕ). all (isLetter (w .mode)) (take (m .count - 0) (drop 0 own))) numbered l)

@@ -11,8 +11,6 @@ use Rattle.records.proofs.places_wrong as places-wrong
 use Rattle.records.proofs.places_wrong.Reads as places-wrong-reads
 use Rattle.records.proofs.lent_out_of_range as lent-out-of-range
 use Rattle.records.proofs.lent_out_of_range.Reads as lent-out-of-range-reads
-use Rattle.records.proofs.word_in as word-in
-use Rattle.records.proofs.word_in.Reads as word-in-reads
 use Rattle.records.proofs.numbers_of as numbers-of
 use Rattle.records.proofs.numbers_of.Reads as numbers-of-reads
 use Rattle.records.proofs.numbers_wrong as numbers-wrong
@@ -31,9 +29,6 @@ places-wrong-one κs a r r′ e e′ p p′ = p ∙ sym p′
 
 pub lent-out-of-range-one : (κs : Lfts 4) (a : Args lent-out-of-range.signature κs) (r r′ : Res lent-out-of-range.signature κs) (e e′ : AtExit lent-out-of-range.ended κs) → lent-out-of-range-reads.Post κs a r e → lent-out-of-range-reads.Post κs a r′ e′ → r ≡ r′
 lent-out-of-range-one κs a r r′ e e′ p p′ = p ∙ sym p′
-
-pub word-in-one : (κs : Lfts 0) (a : Args word-in.signature κs) (r r′ : Res word-in.signature κs) (e e′ : AtExit word-in.ended κs) → word-in-reads.Post κs a r e → word-in-reads.Post κs a r′ e′ → r ≡ r′
-word-in-one κs a r r′ e e′ p p′ = p ∙ sym p′
 
 pub numbers-of-one : (κs : Lfts 0) (a : Args numbers-of.signature κs) (r r′ : Res numbers-of.signature κs) (e e′ : AtExit numbers-of.ended κs) → numbers-of-reads.Post κs a r e → numbers-of-reads.Post κs a r′ e′ → r ≡ r′
 numbers-of-one κs a r r′ e e′ p p′ = p ∙ sym p′

@@ -95,35 +95,6 @@ pub fn numbers_of(w: Word) -> Numbers
     }
 }
 
-// The record that a mode, letters, places of keys, keys and numbers are.
-pub fn word_in(
-    mode: u8,
-    letters: [u16; Word::KEYS],
-    appended_by: [u8; Word::KEYS],
-    shaped_by: [u8; Word::KEYS],
-    keys: [u8; Word::KEYS],
-    toned_by: u8,
-    n: Numbers,
-) -> Word
-    ensures { λ r. ⌜ r ≡ wordIn mode letters «appended_by» «shaped_by» keys «toned_by» n ⌝ }
-{
-    Word {
-        mode: mode,
-        letters: letters,
-        appended_by: appended_by,
-        shaped_by: shaped_by,
-        count: n.count,
-        tone: n.tone,
-        toned_by: toned_by,
-        closed: n.closed,
-        keys: keys,
-        typed: n.typed,
-        acted: n.acted,
-        undone: n.undone,
-        appended: n.appended,
-    }
-}
-
 // A count over 32, more letters than keys, counts that do not add up to the keys, a tone or a mode that does not exist.
 // No more than 32 keys, no more letters than keys, and a sum that is the keys: so no count is over 32.
 pub fn numbers_wrong(mode: u8, n: Numbers) -> bool

@@ -14,12 +14,14 @@ use Rattle.rules.specs.TheWord.{State, Typed, Done, acted, undone, appended, st
 use Rattle.rules.specs.KeyRoles.{letterOfKey, oneFurther, keyDoes}
 use Rattle.rules.specs.declared.Touched.{Touched}
 use Rattle.rules.specs.declared.Touched.the-variants.{NoLetter, OneLetter, TwoLetters}
+use Rattle.rules.specs.declared.Outcome.{Outcome}
+use Rattle.rules.specs.declared.Outcome.the-variants.{Acted, Undone, Appended}
 use Rattle.rules.proofs.Tests.{is-false}
 use Rattle.rules.proofs.Edits.{Reshaped, one, two, later, puts-shape, puts-stroke}
 use Rattle.rules.proofs.KeyPlaces.{Leaves, sets-tone, clears-tone, puts-on, tone-off, shape-off, added-plainly, added-horning, shape-not-tone}
 use Rattle.rules.proofs.Records.{front-front}
 use Rattle.rules.proofs.StaysInRange.{read-front, length-shapedOn}
-use Rattle.step.specs.LentLetters.{TouchesIn, byThen, shapedThen, tonedThen}
+use Rattle.step.specs.LentLetters.{TouchesIn, byThen, shaperOf, shapedThen, tonedThen}
 
 -- what stands in front, written again; and a number behind it
 module _ (l : List ℕ) (n : ℕ) where
@@ -57,6 +59,15 @@ on-then p g l n t h =
     behind-front (shapedOn p g l) n noKey (omega (arith, length-shapedOn p g l)) ∙
     ap₂ (λ (a b : List ℕ). atFront (a ++ (noKey ∷ [])) b) (ap (take n) e ∙ read-front front l n long) e ∙
     front-front (front ++ (noKey ∷ [])) front l (simp length-append (omega arith))
+
+-- as many as there were
+pub length-byThen : (l : List ℕ) (n here : ℕ) (o : Outcome) → length (byThen l n here o) ≡ length l
+length-byThen l n here (Acted a) = refl
+length-byThen l n here Undone = length-set l n here
+length-byThen l n here Appended = length-set l n here
+
+pub length-shapedThen : (l : List ℕ) (n here : ℕ) (g : Touched) (o : Outcome) → length (shapedThen l n here g o) ≡ length l
+length-shapedThen l n here g o = length-byThen (shapedOn (shaperOf o here) g l) n noKey o ∙ length-shapedOn (shaperOf o here) g l
 
 -- after a key at a place
 module _ (l : List ℕ) (n here : ℕ) (h : n < length l) where

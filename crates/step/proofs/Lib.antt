@@ -9,3 +9,5 @@ pub mod Rulings
 pub mod Steps
 pub mod One
 pub mod KeysPut
+pub mod RecordKept
+pub mod StepsAt

@@ -149,3 +149,9 @@ pub acts : (o : Outcome) (l : List ℕ) (count here : ℕ) → OneOf (0 ∷ 1 �
 acts (Acted a) l count here p q = (refl, refl)
 acts Undone l count here p q = absurd (two-no (λ e. omega arith) (λ e. omega arith) q)
 acts Appended l count here p q = absurd (two-no (λ e. omega arith) (λ e. omega arith) p)
+
+-- and one that did not act appended a letter
+pub adds : (o : Outcome) (l : List ℕ) (count here : ℕ) → OneOf (1 ∷ 2 ∷ []) (tagOf Outcomes.the-type o) → set l count here ≡ byThen l count here o
+adds (Acted a) l count here p = absurd (two-no (λ e. omega arith) (λ e. omega arith) p)
+adds Undone l count here p = refl
+adds Appended l count here p = refl

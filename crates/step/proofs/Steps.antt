@@ -92,7 +92,7 @@ module _ (w : Word) (k : ℕ) (r : InRange w) (room : w .typed < mostKeys) (whol
   counts = record { acted = w .acted; undone = w .undone; appended = w .appended }
 
   -- the word as it is put together at the end
-  abbrev together : Answer.Done → List ℕ → Counts → List ℕ → List ℕ → List ℕ → ℕ → ℕ → Step
+  abbrev pub together : Answer.Done → List ℕ → Counts → List ℕ → List ℕ → List ℕ → ℕ → ℕ → Step
   together x l n ps ss ks p t =
       record {
         answer = Did (x .outcome);
@@ -117,24 +117,24 @@ module _ (w : Word) (k : ℕ) (r : InRange w) (room : w .typed < mostKeys) (whol
       λ i. together (told i) (e .left i) (c i) (b i) (s i) (behind-front (w .keys) (w .typed) k (omega (arith, whole .keys, room)) i) (t i) (typed-then i)
 
 -- the answer by the tests
-abbrev refusedWith : Word → ℕ → ℕ → Step
-refusedWith w number value = record { answer = Refused (record { number = number; value = value }); word = w }
+abbrev refusedStep : Word → ℕ → ℕ → Step
+refusedStep w number value = record { answer = Refused (record { number = number; value = value }); word = w }
 
 module _ (w : Word) (k : ℕ) where
-  pub out-of-range : outOfRange w ≡ true → refusedWith w 8 0 ≡ step w k
+  pub out-of-range : outOfRange w ≡ true → refusedStep w 8 0 ≡ step w k
   unfolding step refusal
   out-of-range e = simp e
 
-  pub full : outOfRange w ≡ false → mostKeys ≤ w .typed → refusedWith w 2 mostKeys ≡ step w k
+  pub full : outOfRange w ≡ false → mostKeys ≤ w .typed → refusedStep w 2 mostKeys ≡ step w k
   unfolding step refusal
   full e h = simp (e, lt-ltb mostKeys (w .typed + 1) (omega arith))
 
   byte-place : isKey (w .mode) k ≡ false → placeOfByte (record { mode = w .mode; already = w .typed; bytes = k ∷ [] }) ≡ w .typed
   byte-place n = let e : w .typed + 0 ≡ w .typed = omega arith in ap (λ (b : Bool). w .typed + elim b [ true ↦ 1 | false ↦ 0 ]) n ∙ e
 
-  pub no-key : outOfRange w ≡ false → w .typed < mostKeys → isKey (w .mode) k ≡ false → refusedWith w 3 (w .typed) ≡ step w k
+  pub no-key : outOfRange w ≡ false → w .typed < mostKeys → isKey (w .mode) k ≡ false → refusedStep w 3 (w .typed) ≡ step w k
   unfolding step refusal
-  no-key e h n = simp (e, le-ltb mostKeys (w .typed + 1) (omega arith), n) (ap (refusedWith w 3) (sym (byte-place n)))
+  no-key e h n = simp (e, le-ltb mostKeys (w .typed + 1) (omega arith), n) (ap (refusedStep w 3) (sym (byte-place n)))
 
   pub accepted : outOfRange w ≡ false → w .typed < mostKeys → isKey (w .mode) k ≡ true → didOf w k (keyDoes (wordOf w) k) ≡ step w k
   unfolding step refusal

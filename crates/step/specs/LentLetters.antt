@@ -1,4 +1,4 @@
--- What a rule of document 01 leaves in the array of letters and in the state beside it, and the step's two answers. Only contracts of private functions cite what stands here.
+-- What a rule of document 01 leaves in the array of letters and in the state beside it; only contracts of private functions cite what stands here.
 use mathlib.Core.Path.{_≡_}
 use mathlib.Core.Bool.{Bool, true, false}
 use mathlib.Core.List.{List, [], _∷_, _++_, map}
@@ -16,9 +16,6 @@ use Rattle.rules.specs.declared.Touched.{Touched}
 use Rattle.rules.specs.declared.Touched.the-variants.{NoLetter, OneLetter, TwoLetters}
 use Rattle.rules.specs.declared.Outcome.{Outcome}
 use Rattle.rules.specs.declared.Outcome.the-variants.{Acted, Undone, Appended}
-use Rattle.rules.specs.declared.StepAnswer.the-variants.{Refused}
-use Rattle.records.specs.declared.Numbers.{Numbers}
-use Rattle.step.specs.declared.StepIn.{StepIn}
 use Rattle.step.specs.declared.Edit.{Edit}
 use Rattle.step.specs.declared.Edit.the-variants.{Nothing, Off, Change}
 use Rattle.step.specs.declared.Rest.{Rest}
@@ -142,7 +139,3 @@ countedIn n o = record { acted = oneMore (isActed o) (n .acted); undone = oneMor
 abbrev pub unlessClosedRole : Bool → Role → Role
 unlessClosedRole true r = NoRole
 unlessClosedRole false r = r
-
--- the step's answer where it is refused
-abbrev pub refusedStep : Numbers → ℕ → ℕ → StepIn
-refusedStep n number value = record { answer = Refused (record { number = number; value = value }); numbers = n }

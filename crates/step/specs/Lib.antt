@@ -1,2 +1,2 @@
 pub mod LentLetters
-pub mod LentWord
+pub mod InPlace

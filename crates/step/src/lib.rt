@@ -14,15 +14,13 @@ use rules::Word;
 ghost use mathlib.Core.Path.{_≡_};
 ghost use mathlib.Core.Bool.{true, false};
 ghost use Prim.Native.Nat.{_≤_, _<_};
-ghost use lib.ListN.{length, set};
-ghost use Rattle.rules.specs.TheWord.{mostKeys, appended as appendedOf, undone as undoneOf, noKey, shapedOn};
-ghost use Rattle.rules.specs.KeyRoles.{letterOfKey, asksSecondHorn, undo as undoOf, toneDoes, unlessClosed, role as roleOf, isKey};
-ghost use Rattle.rules.specs.Refusals.{outOfRange};
+ghost use lib.ListN.{length};
+ghost use Rattle.rules.specs.TheWord.{appended as appendedOf, undone as undoneOf, shapedOn};
+ghost use Rattle.rules.specs.KeyRoles.{letterOfKey, asksSecondHorn, undo as undoOf, toneDoes, unlessClosed, role as roleOf};
 ghost use Rattle.rules.specs.LettersOfAMode.{AllFine};
 ghost use Rattle.rules.specs.WhatComesBack.{step as stepOf};
-ghost use Rattle.step.specs.LentLetters.{LettersInFront, RoomForLetter, NoSecondHorn, appendedPlainly, secondHornOn, withSecondHorn, LeavesState, DoesAsRuled, stateIn, afterEdit, restWithTone, countedIn, unlessClosedRole, refusedStep, TouchesIn, byThen, shapedThen, tonedThen};
-ghost use Rattle.step.specs.LentWord.{stepIn};
-ghost use Rattle.records.specs.Numbers.{wordIn};
+ghost use Rattle.step.specs.LentLetters.{LettersInFront, RoomForLetter, NoSecondHorn, appendedPlainly, secondHornOn, withSecondHorn, LeavesState, DoesAsRuled, stateIn, afterEdit, restWithTone, countedIn, unlessClosedRole, TouchesIn, byThen, shapedThen, tonedThen};
+ghost use Rattle.step.specs.InPlace.{numbersPut, heldIn, ReadyAt, TypedAt, refusedWith, notTaken, stepAt};
 
 mod edits;
 
@@ -250,35 +248,30 @@ fn put_shaper(shaped_by: &mut [u8], touched: Touched, place: u8)
     }
 }
 
-// The new letter of a key that did not act, after the others: appended by the key at this place, and shaped by none.
-fn put_letter(appended_by: &mut [u8], shaped_by: &mut [u8], count: usize, here: u8)
-    requires { ⌜ (count < length (now «appended_by»)) × (count < length (now «shaped_by»)) ⌝ }
-    ensures { λ _. ⌜ (now («appended_by» .exit) ≡ set (now («appended_by» .entry)) count here) × (now («shaped_by» .exit) ≡ set (now («shaped_by» .entry)) count noKey) ⌝ }
+// The key at this place has appended the letter after the others, unless it acted.
+fn put_appender(appended_by: &mut [u8], count: usize, outcome: Outcome, here: u8)
+    requires { ⌜ count < length (now «appended_by») ⌝ }
+    ensures { λ _. ⌜ now («appended_by» .exit) ≡ byThen (now («appended_by» .entry)) count here outcome ⌝ }
 {
+    if let Outcome::Acted(_) = outcome {
+        return;
+    }
     appended_by[count] = here;
-    shaped_by[count] = Word::NO_KEY;
 }
 
-// What a key leaves of the places of keys: it has shaped the letters that it touched, or after an undo none has.
-fn put_places(
-    appended_by: &mut [u8],
-    shaped_by: &mut [u8],
-    count: usize,
-    outcome: Outcome,
-    touched: Touched,
-    here: u8,
-)
-    requires { ⌜ (count < length (now «appended_by»)) × (count < length (now «shaped_by»)) × TouchesIn (length (now «shaped_by»)) touched ⌝ }
-    ensures { λ _. ⌜ (now («appended_by» .exit) ≡ byThen (now («appended_by» .entry)) count here outcome) × (now («shaped_by» .exit) ≡ shapedThen (now («shaped_by» .entry)) count here touched outcome) ⌝ }
+// A key has shaped the letters that it touched, or after an undo none has; the letter that it appended is shaped by none.
+fn put_shapers(shaped_by: &mut [u8], count: usize, outcome: Outcome, touched: Touched, here: u8)
+    requires { ⌜ (count < length (now «shaped_by»)) × TouchesIn (length (now «shaped_by»)) touched ⌝ }
+    ensures { λ _. ⌜ now («shaped_by» .exit) ≡ shapedThen (now («shaped_by» .entry)) count here touched outcome ⌝ }
 {
     if let Outcome::Appended = outcome {
         put_shaper(shaped_by, touched, here);
-        put_letter(appended_by, shaped_by, count, here);
+        shaped_by[count] = Word::NO_KEY;
         return;
     }
     if let Outcome::Undone = outcome {
         put_shaper(shaped_by, touched, Word::NO_KEY);
-        put_letter(appended_by, shaped_by, count, here);
+        shaped_by[count] = Word::NO_KEY;
         return;
     }
     put_shaper(shaped_by, touched, here);
@@ -297,25 +290,25 @@ fn toner(before: u8, after: u8, here: u8, toned_by: u8) -> u8
     here
 }
 
-// What a step gives where the word's arrays are lent: its answer, and the word's numbers then.
-pub struct StepIn {
-    pub answer: StepAnswer,
-    pub numbers: Numbers,
+// The numbers, at the front of a record's bytes behind the mode.
+fn put_numbers(lent: &mut [u8], n: Numbers)
+    requires { ⌜ 8 ≤ length (now lent) ⌝ }
+    ensures { λ _. ⌜ now (lent .exit) ≡ numbersPut (now (lent .entry)) n ⌝ }
+{
+    lent[1] = n.count;
+    lent[2] = n.tone;
+    lent[3] = n.closed as u8;
+    lent[4] = n.typed;
+    lent[5] = n.acted;
+    lent[6] = n.undone;
+    lent[7] = n.appended;
 }
 
-// A key that a word in range has room for and its mode allows: kept, and counted by what it did.
-fn typed(
-    letters: &mut [u16],
-    appended_by: &mut [u8],
-    shaped_by: &mut [u8],
-    keys: &mut [u8],
-    toned_by: &mut u8,
-    mode: u8,
-    n: Numbers,
-    key: u8,
-) -> StepIn
-    requires { ⌜ (length (now letters) ≡ mostKeys) × (length (now «appended_by») ≡ mostKeys) × (length (now «shaped_by») ≡ mostKeys) × (length (now keys) ≡ mostKeys) × (outOfRange (wordIn mode (now letters) (now «appended_by») (now «shaped_by») (now keys) (now «toned_by») n) ≡ false) × (n .typed < mostKeys) × (isKey mode key ≡ true) ⌝ }
-    ensures { λ r. ⌜ stepIn mode (now (letters .exit)) (now («appended_by» .exit)) (now («shaped_by» .exit)) (now (keys .exit)) (now («toned_by» .exit)) r ≡ stepOf (wordIn mode (now (letters .entry)) (now («appended_by» .entry)) (now («shaped_by» .entry)) (now (keys .entry)) (now («toned_by» .entry)) n) key ⌝ }
+// A key that a word in range has room for and its mode allows: kept, and counted by what it did. The letters are taken out of the record,
+// and changed where they are lent; all else is stored where it lies in the record's bytes, and only what changed.
+fn typed(lent: &mut [u8], letters: &mut [u16], mode: u8, n: Numbers, key: u8) -> Outcome
+    requires { ⌜ ReadyAt (now lent) (now letters) mode n key ⌝ }
+    ensures { λ r. ⌜ TypedAt (stepOf (heldIn (now (lent .entry)) (now (letters .entry)) mode n) key) (now (lent .entry)) r (now (letters .exit)) (now (lent .exit)) ⌝ }
 {
     let rest = Rest {
         count: n.count,
@@ -327,16 +320,11 @@ fn typed(
     let touched = done.touched;
     let now = done.rest;
     let at = n.typed as usize;
-    keys[at] = key;
-    put_places(
-        appended_by,
-        shaped_by,
-        n.count as usize,
-        outcome,
-        touched,
-        n.typed,
-    );
-    *toned_by = toner(n.tone, now.tone, n.typed, *toned_by);
+    let count = n.count as usize;
+    lent[8 + at] = key;
+    put_appender(&mut lent[104..136], count, outcome, n.typed);
+    put_shapers(&mut lent[136..168], count, outcome, touched, n.typed);
+    lent[168] = toner(n.tone, now.tone, n.typed, lent[168]);
     let counts = counted(
         Counts {
             acted: n.acted,
@@ -345,9 +333,9 @@ fn typed(
         },
         outcome,
     );
-    StepIn {
-        answer: StepAnswer::Did(outcome),
-        numbers: Numbers {
+    put_numbers(
+        lent,
+        Numbers {
             count: now.count,
             tone: now.tone,
             closed: now.closed,
@@ -356,91 +344,78 @@ fn typed(
             undone: counts.undone,
             appended: counts.appended,
         },
-    }
+    );
+    outcome
 }
 
-fn refused(n: Numbers, number: u8, value: usize) -> StepIn
-    ensures { λ r. ⌜ r ≡ refusedStep n number value ⌝ }
+fn refused(number: u8, value: usize) -> StepAnswer
+    ensures { λ r. ⌜ r ≡ refusedWith number value ⌝ }
 {
-    StepIn {
-        answer: StepAnswer::Refused(Refusal {
-            number: number,
-            value: value,
-        }),
-        numbers: n,
-    }
+    StepAnswer::Refused(Refusal {
+        number: number,
+        value: value,
+    })
 }
 
-// One key, typed into a word whose arrays are lent and changed where they lie: a record that is handed on by value is copied each time.
-// Refusals: 8, 2, 3; the word is then as it was.
-pub fn step_in(
-    letters: &mut [u16; Word::KEYS],
-    appended_by: &mut [u8; Word::KEYS],
-    shaped_by: &mut [u8; Word::KEYS],
-    keys: &mut [u8; Word::KEYS],
-    toned_by: &mut u8,
-    mode: u8,
-    n: Numbers,
-    key: u8,
-) -> StepIn
-    ensures { λ r. ⌜ stepIn mode (now (letters .exit)) (now («appended_by» .exit)) (now («shaped_by» .exit)) (now (keys .exit)) (now («toned_by» .exit)) r ≡ stepOf (wordIn mode (now (letters .entry)) (now («appended_by» .entry)) (now («shaped_by» .entry)) (now (keys .entry)) (now («toned_by» .entry)) n) key ⌝ }
+// A key that is not taken: the word is full, or else its mode does not allow the key. One question before it, for the compiler takes what
+// stands behind many for seldom run.
+fn not_taken(at: usize) -> StepAnswer
+    ensures { λ r. ⌜ r ≡ notTaken at ⌝ }
 {
+    if Word::KEYS <= at {
+        return refused(2, Word::KEYS);
+    }
+    refused(3, at)
+}
+
+// One key, typed into a word that is lent as its record's bytes, where they lie. Refusals: 8, also for bytes that are no record, 2, 3; the
+// bytes are then as they were.
+pub fn step_at(lent: &mut [u8], key: u8) -> StepAnswer
+    ensures { λ r. ⌜ (r ≡ stepAt (now (lent .entry)) key .answer) × (now (lent .exit) ≡ stepAt (now (lent .entry)) key .bytes) ⌝ }
+{
+    let reading = layout::read(lent);
+    if !reading.is_record {
+        return refused(8, 0);
+    }
+    let w = reading.word;
+    let mode = w.mode;
+    let n = records::numbers_of(w);
+    let appended_by = w.appended_by;
+    let shaped_by = w.shaped_by;
     if records::numbers_wrong(mode, n)
-        | records::places_wrong(n.typed, n.count, appended_by, shaped_by, *toned_by)
+        | records::places_wrong(n.typed, n.count, &appended_by, &shaped_by, w.toned_by)
     {
-        return refused(n, 8, 0);
+        return refused(8, 0);
     }
     let at = n.typed as usize;
-    let kept = &keys[..];
+    let kept = w.keys;
     if !records::keys_allowed(mode, &kept[0..at]) {
-        return refused(n, 8, 0);
+        return refused(8, 0);
     }
+    let mut letters = layout::letters_of(lent);
     let count = n.count as usize;
-    let held = &letters[..];
-    if !records::letters_allowed(mode, &held[0..count]) {
-        return refused(n, 8, 0);
+    if !records::letters_allowed(mode, &letters[0..count]) {
+        return refused(8, 0);
     }
-    if Word::KEYS <= at {
-        return refused(n, 2, Word::KEYS);
+    if (Word::KEYS <= at) | !keys::is_key(mode, key) {
+        return not_taken(at);
     }
-    if !keys::is_key(mode, key) {
-        return refused(n, 3, at);
-    }
-    typed(
-        letters,
-        appended_by,
-        shaped_by,
-        keys,
-        toned_by,
-        mode,
-        n,
-        key,
-    )
+    let outcome = typed(lent, &mut letters, mode, n, key);
+    layout::put_letters(&letters, lent);
+    StepAnswer::Did(outcome)
 }
 
 // One key. Refusals: 8, 2, 3; the word is then as it was.
 pub fn step(w: Word, key: u8) -> Step
     ensures { λ r. ⌜ r ≡ stepOf w key ⌝ }
 {
-    let mut letters = w.letters;
-    let mut appended_by = w.appended_by;
-    let mut shaped_by = w.shaped_by;
-    let mut keys = w.keys;
-    let mut toned_by = w.toned_by;
-    let done = step_in(
-        &mut letters,
-        &mut appended_by,
-        &mut shaped_by,
-        &mut keys,
-        &mut toned_by,
-        w.mode,
-        records::numbers_of(w),
-        key,
-    );
-    let answer = done.answer;
-    let n = done.numbers;
+    let mut bytes = [0; layout::LENGTH];
+    layout::write(w, &mut bytes);
+    let answer = step_at(&mut bytes, key);
+    let reading = layout::read(&bytes);
+    let next = reading.word;
     Step {
         answer: answer,
-        word: records::word_in(w.mode, letters, appended_by, shaped_by, keys, toned_by, n),
+        word: next,
     }
 }

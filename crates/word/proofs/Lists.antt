@@ -1,4 +1,4 @@
--- One turn of the loops over a list of keys: how many are allowed, and the word with one key more.
+-- One turn of the loops over a list of keys: how many are allowed, and the word with one key more, in its bytes.
 use mathlib.Core.Path.{_≡_, refl, sym, ap, subst, _∙_}
 use mathlib.Core.Bool.{Bool, true, false, _&&_}
 use mathlib.Core.List.{List, [], _∷_}
@@ -7,13 +7,20 @@ use native.Mathlib.Numerals.{add-one}
 use native.Mathlib.Omega.{arith}
 use lib.Dec.{T}
 use lib.ListN.{length, take, drop, getD, drop-of-length-le}
-use lib.Seq.{drop-cons, take-suc, length-take-le}
+use lib.Seq.{drop-cons, take-all, take-suc, length-take-le}
 use lib.Ieee.Fits.{and-i, and-l, and-r}
 use Rattle.rules.specs.TheWord.{mostKeys, newWord, wordOf, holding}
 use Rattle.rules.specs.KeyRoles.{isKey}
 use Rattle.rules.specs.Refusals.{all, isMode, allowedBefore, refusal}
 use Rattle.rules.specs.WhatComesBack.{start, step, typed}
-use Rattle.rules.proofs.Typing.{of-modes, new-held, kept-mode, kept-keys, type-append, list-held, steps}
+use Rattle.rules.specs.declared.Word.{Word}
+use Rattle.rules.proofs.StaysInRange.{Whole}
+use Rattle.rules.proofs.Typing.{Held, of-modes, new-held, kept-mode, kept-keys, type-append, list-held, steps}
+use Rattle.layout.specs.Places.{asBytes, asRecord}
+use Rattle.layout.specs.declared.RecordRead.{RecordRead}
+use Rattle.layout.proofs.RoundTrips.{written-read}
+use Rattle.step.specs.InPlace.{stepAt}
+use Rattle.step.proofs.StepsAt.{long-word, leaves}
 
 module _ (mode : ℕ) (s : List ℕ) (i : ℕ) where
   abbrev pub counted : ℕ
@@ -54,14 +61,35 @@ all-allowed mode (k ∷ s) = go (isKey mode k) (all-allowed mode s)
     go false (p, q, r) = (λ e. absurd (omega arith), λ h. refl, omega arith)
 
 module _ (m : ℕ) (s : List ℕ) (mode : T (isMode m)) (few : length s ≤ mostKeys) (allowed : T (all (isKey m) s)) where
-  pub one-more : (i : ℕ) → i < length s → step (holding (newWord m) (typed m (take i s))) (getD s i 0) .word ≡ holding (newWord m) (typed m (take (i + 1) s))
+  abbrev so-far : ℕ → Word
+  so-far i = holding (newWord m) (typed m (take i s))
+
+  -- the word with the first keys typed is held by its record
+  held-so-far : (i : ℕ) → i ≤ length s → Held (newWord m) (typed m (take i s))
+  held-so-far i h = let n = length-take-le i s h in list-held (newWord m) (wordOf (newWord m)) (take i s) (new-held m mode) (omega (arith, n)) (all-take (isKey m) i s allowed)
+
+  whole-so-far : (i : ℕ) → i ≤ length s → Whole (so-far i)
+  whole-so-far i h = held-so-far i h .whole
+
+  pub long-so-far : (i : ℕ) → i ≤ length s → {bs : List ℕ} → bs ≡ asBytes (so-far i) → 169 ≡ length bs
+  long-so-far i h p = sym (ap (λ (l : List ℕ). length l) p ∙ long-word (so-far i) (whole-so-far i h))
+
+  one-more : (i : ℕ) → i < length s → step (so-far i) (getD s i 0) .word ≡ so-far (i + 1)
   one-more i h =
       let z = wordOf (newWord m) in
       let n = length-take-le i s (omega arith) in
-      let held = list-held (newWord m) z (take i s) (new-held m mode) (omega (arith, n)) (all-take (isKey m) i s allowed) in
-      steps (newWord m) (typed m (take i s)) (getD s i 0) held (omega (arith, kept-keys z (take i s), n))
+      steps (newWord m) (typed m (take i s)) (getD s i 0) (held-so-far i (omega arith)) (omega (arith, kept-keys z (take i s), n))
       (subst (λ (x : ℕ). T (isKey x (getD s i 0))) (sym (kept-mode z (take i s))) (all-at (isKey m) i s h allowed)) ∙
       ap (holding (newWord m)) (sym (ap (typed m) (ap (λ (j : ℕ). take j s) (add-one i) ∙ take-suc s i 0 h) ∙ type-append z (take i s) (getD s i 0 ∷ [])))
+
+  -- the same in its bytes
+  pub one-more-in : (i : ℕ) → i < length s → {old new : List ℕ} → old ≡ asBytes (so-far i) → new ≡ stepAt old (getD s i 0) .bytes → new ≡ asBytes (so-far (i + 1))
+  one-more-in i h p q =
+      q ∙ ap (λ (bs : List ℕ). stepAt bs (getD s i 0) .bytes) p ∙ leaves (so-far i) (whole-so-far i (omega arith)) (getD s i 0) ∙ ap asBytes (one-more i h)
+
+  pub all-typed : (i : ℕ) → length s ≤ i → i ≤ length s → {bs : List ℕ} {r : RecordRead} → bs ≡ asBytes (so-far i) → r ≡ asRecord bs → r .word ≡ holding (newWord m) (typed m s)
+  all-typed i h k p e =
+      ap (λ (x : RecordRead). x .word) (e ∙ ap asRecord p ∙ written-read (so-far i) (whole-so-far i k)) ∙ ap (λ (ks : List ℕ). holding (newWord m) (typed m ks)) (take-all i s h)
 
 -- a word is started in its mode, and holds no key yet
 pub started : (m : ℕ) → T (isMode m) → start m .word ≡ holding (newWord m) (typed m [])

@@ -62,35 +62,22 @@ fn allowed_before(mode: u8, keys: &[u8]) -> usize
     i
 }
 
-// Allowed keys, few enough, typed one after the other into a new word, whose record is put together once, at the end.
+// Allowed keys, few enough, typed one after the other into the bytes of a new word, of which the record is put together once, at the end.
 fn typed_all(mode: u8, keys: &[u8]) -> Word
     requires { ⌜ T (isModeOf mode) × (length (now keys) ≤ 32) × T (all (isKey mode) (now keys)) ⌝ }
     ensures { λ r. ⌜ r ≡ holding (newWord mode) (typed mode (now (keys .entry))) ⌝ }
 {
     let begun = start(mode);
     let w = begun.word;
-    let mut letters = w.letters;
-    let mut appended_by = w.appended_by;
-    let mut shaped_by = w.shaped_by;
-    let mut kept = w.keys;
-    let mut toned_by = w.toned_by;
-    let mut n = records::numbers_of(w);
+    let mut bytes = [0; layout::LENGTH];
+    layout::write(w, &mut bytes);
     let mut i = 0;
     while i < keys.len() {
-        let done = step::step_in(
-            &mut letters,
-            &mut appended_by,
-            &mut shaped_by,
-            &mut kept,
-            &mut toned_by,
-            mode,
-            n,
-            keys[i],
-        );
-        n = done.numbers;
+        step::step_at(&mut bytes, keys[i]);
         i += 1;
     }
-    records::word_in(mode, letters, appended_by, shaped_by, kept, toned_by, n)
+    let reading = layout::read(&bytes);
+    reading.word
 }
 
 fn refused(number: u8, value: usize) -> TypeAll

@@ -51,7 +51,7 @@ long-keyed : (c : tie.After-buffer) → length (keyed c) ≡ 169
 long-keyed c = c .buffer .given .1 ∙ long-numbered (past-numbers c)
 
 abbrev lettered : tie.After-buffer2 → List ℕ
-lettered c = putLetters (keyed (past-keys c)) (c .before .put-letters .last .1 .0)
+lettered c = putLetters (keyed (past-keys c)) (c .before .put-pairs .last .1 .0)
 
 long-lettered : (c : tie.After-buffer2) → length (lettered c) ≡ 169
 long-lettered c = c .buffer2 .given .1 ∙ long-keyed (past-keys c)
@@ -120,4 +120,4 @@ write-spec =
     let keys = past-keys letters in
     let numbers = past-numbers keys in
     let args = start numbers .args in
-    all-written (args .w) (args .buffer .now) (numbers .before .if1 .left) (whole (start numbers)) (keys .before .copy .ensures .1) (letters .before .put-letters .ensures) (by .before .copy2 .ensures .1) (c .before .before .copy3 .ensures .1)))
+    all-written (args .w) (args .buffer .now) (numbers .before .if1 .left) (whole (start numbers)) (keys .before .copy .ensures .1) (letters .before .put-pairs .ensures) (by .before .copy2 .ensures .1) (c .before .before .copy3 .ensures .1)))

@@ -1,23 +1,36 @@
--- `step::step` meets its contract: the arrays are lent, and the record is put together of what is left in them.
-use mathlib.Core.Path.{ap, _∙_}
-use borrow.Author.Needs.{needs}
-use Rattle.rules.specs.WhatComesBack.{step}
-use Rattle.rules.specs.declared.Word.{Word}
-use Rattle.records.specs.declared.Numbers.{Numbers}
-use Rattle.records.specs.Numbers.{wordIn}
+-- `step::step` meets its contract: the word's bytes are lent to the step over bytes, and read back.
+use mathlib.Core.Path.{refl}
+use lib.ListN.{replicate}
+use borrow.Author.Needs.{needs, length-unmapped}
+use Rattle.rules.proofs.StaysInRange.{Whole}
+use Rattle.step.proofs.StepsAt.{read-back}
 use Rattle.step.proofs.step.Statement.{statement}
 use Rattle.step.proofs.step.Tie as tie
+
+whole : (c : tie.Start) → Whole (c .args .w)
+whole c =
+    let w = c .args .w in
+    let fields = c .good .0 .1 .1 in
+    record {
+      letters = length-unmapped _ (w .letters) 32 (fields .1 .0 .1 .0 .1);
+      by = length-unmapped _ (w .«appended_by») 32 (fields .1 .1 .0 .1 .0 .1);
+      shaped-by = length-unmapped _ (w .«shaped_by») 32 (fields .1 .1 .1 .0 .1 .0 .1);
+      keys = length-unmapped _ (w .keys) 32 (fields .1 .1 .1 .1 .1 .1 .1 .1 .0 .1 .0 .1);
+    }
 
 pub step-spec : {M : Type 1} → statement M
 step-spec =
     tie.close
     (tie.spec
+    (λ c. search needs)
     (λ c κs. search needs)
+    (λ c. search needs)
     (λ c κs. search needs)
+    (λ c. search needs)
     (λ c κs. search needs)
     (λ c.
-    let told = c .before .before in
-    let args = told .before .before .before .before .before .before .before .before .before .before .before .args in
-    let w = args .w in
-    ap (λ (v : Word). record { answer = told .step-in .result .answer; word = v }) (c .word-in .ensures) ∙ told .step-in .ensures ∙
-    ap (λ (n : Numbers). step (wordIn (w .mode) (w .letters) (w .«appended_by») (w .«shaped_by») (w .keys) (w .«toned_by») n) (args .key)) (told .before .numbers-of .ensures)))
+    let read = c .before in
+    let stepped = read .before .before .before in
+    let written = stepped .before .before .before in
+    let at = written .before .before in
+    read-back (at .args .w) (whole at) (at .args .key) (replicate 169 0) refl (written .write .ensures .1) (stepped .step-at .ensures .0) (stepped .step-at .ensures .1) (read .read .ensures)))

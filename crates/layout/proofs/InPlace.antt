@@ -75,9 +75,6 @@ module _ (ls : List ℕ) (long : length ls ≡ 64) (w : Word) (whole : Whole w) 
   abbrev past-by : List ℕ
   past-by = w .«shaped_by» ++ (w .«toned_by» ∷ [])
 
-  pub keys-part : part 8 32 (bytesWith ls w) ≡ w .keys
-  keys-part = let e : bytesWith ls w ≡ head ++ (w .keys ++ (ls ++ (w .«appended_by» ++ past-by))) = simp append-assoc in ap (part 8 32) e ∙ mid-part head (w .keys) (ls ++ (w .«appended_by» ++ past-by)) 8 32 refl (whole .keys)
-
   pub by-part : part 104 32 (bytesWith ls w) ≡ w .«appended_by»
   by-part = let e : bytesWith ls w ≡ to-by ++ (w .«appended_by» ++ past-by) = simp append-assoc in ap (part 104 32) e ∙ mid-part to-by (w .«appended_by») past-by 104 32 length-to-by (whole .by)
 

@@ -1,11 +1,11 @@
 -- What is written of a record is read back as it; and what is read of 169 bytes with a mark of 0 or 1 is written back as they were.
-use mathlib.Core.Path.{_≡_, refl, sym, ap, ap₂, subst, _∙_}
+use mathlib.Core.Path.{_≡_, refl, sym, ap, ap₂, _∙_}
 use mathlib.Core.Bool.{Bool, true, false, _&&_}
 use mathlib.Core.List.{List, [], _∷_, _++_, append-assoc}
 use Prim.Native.Nat.{ℕ, zero, suc, _+_, _*_, _/_, _%_}
 use native.Mathlib.Omega.{arith}
 use borrow.Author.Tests.{eq-eqb, eqb-true}
-use lib.Dec.{T, eqb, eqb→eq, ltb, ltb→lt}
+use lib.Dec.{T, eqb, ltb, ltb→lt}
 use lib.Ieee.Fits.{and-i, and-l, and-r}
 use lib.ListN.{length, take, drop, length-drop}
 use lib.Seq.{take-add, take-all, take-at, drop-at, drop-drop, set-getD, getD-drop}

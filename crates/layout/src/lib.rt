@@ -1,12 +1,37 @@
 // The word's record as 169 bytes at fixed places, as C lends it: no struct and no bool crosses.
-// 0 mode, 1 count of letters, 2 tone, 3 closed mark (0 open, 1 closed), 4 keys typed, 5 acted, 6 undone, 7 appended,
-// 8 to 39 the keys, 40 to 103 the letters, two bytes each, low byte first; then the keys' places: 104 to 135 of those that
-// appended the letters, 136 to 167 of those that shaped them, 168 of the one that set the tone.
 ghost use mathlib.Core.Path.{_≡_};
 ghost use Prim.Native.Nat.{_+_, _*_, _/_, _%_};
 ghost use lib.ListN.{length};
 ghost use Rattle.layout.specs.Places.{pairs, numbers, isLong, noRecord, asRecord, recordWritten, lettersPut};
 use rules::Word;
+
+// What stands where. The closed mark is 0 for open and 1 for closed; a letter has two bytes, low byte first; the last three are the
+// places of keys: of those that appended the letters, of those that shaped them, and of the one that set the tone.
+pub const AT_MODE: usize = 0;
+
+pub const AT_COUNT: usize = 1;
+
+pub const AT_TONE: usize = 2;
+
+pub const AT_CLOSED: usize = 3;
+
+pub const AT_TYPED: usize = 4;
+
+pub const AT_ACTED: usize = 5;
+
+pub const AT_UNDONE: usize = 6;
+
+pub const AT_APPENDED: usize = 7;
+
+pub const AT_KEYS: usize = 8;
+
+pub const AT_LETTERS: usize = 40;
+
+pub const AT_APPENDED_BY: usize = 104;
+
+pub const AT_SHAPED_BY: usize = 136;
+
+pub const AT_TONED_BY: usize = 168;
 
 pub const LENGTH: usize = 169;
 
@@ -78,33 +103,33 @@ pub fn read(buffer: &[u8]) -> RecordRead
     if buffer.len() != LENGTH {
         return no_record();
     }
-    let mark = buffer[3];
+    let mark = buffer[AT_CLOSED];
     if 1 < mark {
         return no_record();
     }
     let mut keys = [0; Word::KEYS];
-    bytes::copy(&buffer[8..40], &mut keys);
-    let letters = letters_in(&buffer[40..104]);
+    bytes::copy(&buffer[AT_KEYS..AT_LETTERS], &mut keys);
+    let letters = letters_in(&buffer[AT_LETTERS..AT_APPENDED_BY]);
     let mut appended_by = [0; Word::KEYS];
-    bytes::copy(&buffer[104..136], &mut appended_by);
+    bytes::copy(&buffer[AT_APPENDED_BY..AT_SHAPED_BY], &mut appended_by);
     let mut shaped_by = [0; Word::KEYS];
-    bytes::copy(&buffer[136..168], &mut shaped_by);
+    bytes::copy(&buffer[AT_SHAPED_BY..AT_TONED_BY], &mut shaped_by);
     RecordRead {
         is_record: true,
         word: Word {
-            mode: buffer[0],
+            mode: buffer[AT_MODE],
             letters: letters,
             appended_by: appended_by,
             shaped_by: shaped_by,
-            count: buffer[1],
-            tone: buffer[2],
-            toned_by: buffer[168],
+            count: buffer[AT_COUNT],
+            tone: buffer[AT_TONE],
+            toned_by: buffer[AT_TONED_BY],
             closed: mark == 1,
             keys: keys,
-            typed: buffer[4],
-            acted: buffer[5],
-            undone: buffer[6],
-            appended: buffer[7],
+            typed: buffer[AT_TYPED],
+            acted: buffer[AT_ACTED],
+            undone: buffer[AT_UNDONE],
+            appended: buffer[AT_APPENDED],
         },
     }
 }
@@ -116,23 +141,23 @@ pub fn write(w: Word, buffer: &mut [u8]) -> bool
     if buffer.len() != LENGTH {
         return false;
     }
-    buffer[0] = w.mode;
-    buffer[1] = w.count;
-    buffer[2] = w.tone;
-    buffer[3] = w.closed as u8;
-    buffer[4] = w.typed;
-    buffer[5] = w.acted;
-    buffer[6] = w.undone;
-    buffer[7] = w.appended;
+    buffer[AT_MODE] = w.mode;
+    buffer[AT_COUNT] = w.count;
+    buffer[AT_TONE] = w.tone;
+    buffer[AT_CLOSED] = w.closed as u8;
+    buffer[AT_TYPED] = w.typed;
+    buffer[AT_ACTED] = w.acted;
+    buffer[AT_UNDONE] = w.undone;
+    buffer[AT_APPENDED] = w.appended;
     let keys = w.keys;
-    bytes::copy(&keys, &mut buffer[8..40]);
+    bytes::copy(&keys, &mut buffer[AT_KEYS..AT_LETTERS]);
     let letters = w.letters;
-    put_pairs(&letters, &mut buffer[40..104]);
+    put_pairs(&letters, &mut buffer[AT_LETTERS..AT_APPENDED_BY]);
     let appended_by = w.appended_by;
-    bytes::copy(&appended_by, &mut buffer[104..136]);
+    bytes::copy(&appended_by, &mut buffer[AT_APPENDED_BY..AT_SHAPED_BY]);
     let shaped_by = w.shaped_by;
-    bytes::copy(&shaped_by, &mut buffer[136..168]);
-    buffer[168] = w.toned_by;
+    bytes::copy(&shaped_by, &mut buffer[AT_SHAPED_BY..AT_TONED_BY]);
+    buffer[AT_TONED_BY] = w.toned_by;
     true
 }
 
@@ -144,10 +169,10 @@ pub fn letters_of(buffer: &[u8]) -> [u16; Word::KEYS]
     if buffer.len() != LENGTH {
         return [0; Word::KEYS];
     }
-    if 1 < buffer[3] {
+    if 1 < buffer[AT_CLOSED] {
         return [0; Word::KEYS];
     }
-    letters_in(&buffer[40..104])
+    letters_in(&buffer[AT_LETTERS..AT_APPENDED_BY])
 }
 
 // The bytes of 32 letters in their place, and all else as it was. Nothing is written of another number of letters, or where there are not
@@ -158,5 +183,5 @@ pub fn put_letters(letters: &[u16], buffer: &mut [u8])
     if (letters.len() != Word::KEYS) | (buffer.len() != LENGTH) {
         return;
     }
-    put_pairs(letters, &mut buffer[40..104]);
+    put_pairs(letters, &mut buffer[AT_LETTERS..AT_APPENDED_BY]);
 }

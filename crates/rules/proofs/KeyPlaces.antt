@@ -12,19 +12,19 @@ use lib.Seq.{getD-append-seam, getD-take, length-take-le}
 use lib.Ieee.Fits.{and-l, and-r}
 use Rattle.rules.specs.Letters.{Letter, Letters, plain, horn, noTone, words}
 use Rattle.rules.specs.TheWord.{State, Typed, Done, acted, undone, appended, mostKeys, noKey, letter, newWord, wordOf, holding, shapedOn, tonedByUndo, counted}
-use Rattle.rules.specs.KeyRoles.{letterOfKey, lower, telexRoles, vniRoles, roleIn, role, shaped, oneFurther, awaitsSecondHorn, asksSecondHorn, takesSecondHorn, hornOnU, hornOnUIf, placeOfU, touchedIf, isAdded, withLetters, withTone, undo, undoIf, actIf, toneGoes, Edit, nothing, shapeEdit, strokeEdit, editDoes, roleDoes, unlessClosed, keyDoes, type, typeList}
+use Rattle.rules.specs.KeyRoles.{letterOfKey, lower, telexRoles, vniRoles, role, shaped, oneFurther, awaitsSecondHorn, asksSecondHorn, takesSecondHorn, hornOnU, hornOnUIf, placeOfU, touchedIf, isAdded, withLetters, withTone, undo, undoIf, actIf, toneGoes, Edit, editDoes, roleDoes, unlessClosed, keyDoes, type, typeList}
 use Rattle.rules.specs.WhatComesBack.{typed, typeAll}
 use Rattle.rules.specs.KeyPlaces.{PlacesTold}
 use Rattle.rules.specs.declared.Word.{Word}
 use Rattle.rules.specs.declared.Touched.{Touched}
 use Rattle.rules.specs.declared.Touched.the-variants.{NoLetter, OneLetter, TwoLetters}
 use Rattle.rules.specs.declared.Act.{Act}
-use Rattle.rules.specs.declared.Act.the-variants.{Tone, Shape, Stroke, Clear}
+use Rattle.rules.specs.declared.Act.the-variants.{Tone, Clear}
 use Rattle.rules.specs.declared.Role.{Role}
 use Rattle.rules.specs.declared.Role.the-variants.{ToneRole, ShapeRole, StrokeRole, NoRole}
 use Rattle.rules.specs.declared.ToneKey.the-variants.{SetTone, ClearTone}
 use Rattle.rules.specs.declared.TypeAnswer.the-variants.{AllTyped}
-use Rattle.rules.proofs.Tests.{either, is-false}
+use Rattle.rules.proofs.Tests.{is-false}
 use Rattle.rules.proofs.Words.{bases, of-words}
 use Rattle.rules.proofs.Edits.{Reshaped, one, two, later, Puts, puts-shape, puts-stroke, Good, good-none, good-off, good, good-shape, good-stroke}
 use Rattle.rules.proofs.Range.{in-range}

@@ -1,16 +1,16 @@
 -- Demand 3, first half, of the words typed: two keys of different families that would each act alone give the same word in both orders; only the kept keys differ, and the places of the two are exchanged.
 use mathlib.Core.Path.{_≡_, refl, sym, ap, ap₂, _∙_}
-use mathlib.Core.Bool.{Bool, true, false, not, _&&_, _||_}
+use mathlib.Core.Bool.{Bool, true, false, not, _&&_}
 use mathlib.Core.List.{List, [], _∷_, _++_, map, append-assoc}
 use Prim.Native.Nat.{ℕ, zero, suc, _+_, _≤_}
 use Prim.Native.String.{String}
 use native.Mathlib.Omega.{arith}
-use lib.Dec.{T, eqb, eqb→eq, eqb-refl, ltb, ltb→lt, not-T}
+use lib.Dec.{T, eqb, eqb→eq, eqb-refl, ltb→lt, not-T}
 use lib.ListN.{length, set, length-append}
 use lib.Ieee.Fits.{and-l, and-r}
 use Rattle.rules.specs.Letters.{grave, telex, vni, characters, word, same}
 use Rattle.rules.specs.TakingApart.{verdict, admitted, someAgrees, fits, fit, joins, initial, nucleus, final, leftovers}
-use Rattle.rules.specs.TheWord.{State, Typed, Places, Done, acted, undone, appended, counted, mostKeys, noKey, shapedOn, tonedByAct}
+use Rattle.rules.specs.TheWord.{State, Typed, Done, acted, undone, appended, counted, mostKeys, noKey, shapedOn, tonedByAct}
 use Rattle.rules.specs.KeyRoles.{role, letterOfKey, unlessClosed, keyDoes, type}
 use Rattle.rules.specs.Decision.{keeps, decision}
 use Rattle.rules.specs.CodePoints.{shown}

@@ -232,7 +232,7 @@ module _ (n : ℕ) where
   toned-below p (acted (Tone x) g s) t = or-none (n + 1) n (here-below n)
   toned-below p (acted (Shape sh) g s) t = more-or-none n p t
   toned-below p (acted Stroke g s) t = more-or-none n p t
-  toned-below p (acted Clear g s) t = search (more-or-none n p t)
+  toned-below p (acted Clear g s) t = tt
   toned-below p (undone NoLetter s) t = tt
   toned-below p (undone (OneLetter i) s) t = more-or-none n p t
   toned-below p (undone (TwoLetters i) s) t = more-or-none n p t

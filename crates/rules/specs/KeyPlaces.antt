@@ -4,8 +4,8 @@ use mathlib.Core.Bool.{true, false}
 use mathlib.Core.List.{List, map}
 use Prim.Native.Nat.{ℕ, suc, _<_}
 use lib.Dec.{eqb}
-use lib.ListN.{length, take, getD}
-use Rattle.rules.specs.Letters.{Letter, plain, noTone}
+use lib.ListN.{take, getD}
+use Rattle.rules.specs.Letters.{plain, noTone}
 use Rattle.rules.specs.TheWord.{Typed, noKey, letter, atFront}
 use Rattle.rules.specs.KeyRoles.{letterOfKey, shaped}
 use Rattle.rules.specs.declared.Word.{Word}

@@ -1,7 +1,7 @@
 -- The places of keys that a step stores in their arrays are those of the rules, at the front of what stood there.
-use mathlib.Core.Path.{_≡_, refl, sym, ap, ap₂, subst, _∙_}
+use mathlib.Core.Path.{_≡_, refl, sym, ap, ap₂, _∙_}
 use mathlib.Core.Bool.{Bool, true, false, not}
-use mathlib.Core.List.{List, [], _∷_, _++_, append-assoc, map}
+use mathlib.Core.List.{List, [], _∷_, _++_, append-assoc}
 use Prim.Native.Nat.{ℕ, suc, _+_, _≤_, _<_}
 use native.Mathlib.Numerals.{add-one}
 use native.Mathlib.Omega.{arith}
@@ -10,8 +10,8 @@ use lib.ListN.{length, take, drop, set, length-set, length-append, take-append-d
 use lib.Seq.{length-take-le, set-append-left, set-split, take-set-lt, drop-set-lt}
 use borrow.Author.Tests.{eq-eqb}
 use Rattle.rules.specs.Letters.{Letter, Letters, noTone}
-use Rattle.rules.specs.TheWord.{State, Typed, Done, acted, undone, appended, stateOf, touchedOf, outcomeOf, noKey, atFront, shapedOn, appendedAfter, shapedAfter, tonedByUndo, tonedAfter}
-use Rattle.rules.specs.KeyRoles.{letterOfKey, oneFurther, keyDoes}
+use Rattle.rules.specs.TheWord.{State, Done, acted, undone, appended, stateOf, touchedOf, outcomeOf, noKey, atFront, shapedOn, appendedAfter, shapedAfter, tonedAfter}
+use Rattle.rules.specs.KeyRoles.{oneFurther}
 use Rattle.rules.specs.declared.Touched.{Touched}
 use Rattle.rules.specs.declared.Touched.the-variants.{NoLetter, OneLetter, TwoLetters}
 use Rattle.rules.specs.declared.Outcome.{Outcome}

@@ -21,7 +21,7 @@ use Rattle.step.specs.declared.Done as Answer
 use Rattle.step.specs.LentLetters.{DoesAsRuled, TouchesIn, countedIn, byThen, shapedThen, tonedThen}
 use Rattle.step.specs.InPlace.{heldIn, ReadyAt, TypedAt, numbersPut}
 use Rattle.step.proofs.KeysPut.{length-byThen, length-shapedThen}
-use Rattle.step.proofs.Steps.{in-range-of, touches-in, together, kept, accepted}
+use Rattle.step.proofs.Steps.{in-range-of, touches-in, kept, accepted}
 
 module _ (bs letters : List ℕ) (mode : ℕ) (n : Numbers) (key : ℕ) (ready : ReadyAt bs letters mode n key) where
   abbrev w : Word

@@ -1,7 +1,7 @@
 -- The step's answer by its tests; and a key kept and counted is the word with the key typed.
 use mathlib.Core.Path.{_≡_, sym, ap, subst, _∙_}
 use mathlib.Core.Bool.{Bool, true, false, not}
-use mathlib.Core.List.{List, [], _∷_, _++_, map}
+use mathlib.Core.List.{List, [], _∷_, _++_}
 use Prim.Native.Nat.{ℕ, _+_, _≤_, _<_}
 use native.Mathlib.Omega.{arith}
 use lib.Dec.{T}
@@ -92,7 +92,7 @@ module _ (w : Word) (k : ℕ) (r : InRange w) (room : w .typed < mostKeys) (whol
   counts = record { acted = w .acted; undone = w .undone; appended = w .appended }
 
   -- the word as it is put together at the end
-  abbrev pub together : Answer.Done → List ℕ → Counts → List ℕ → List ℕ → List ℕ → ℕ → ℕ → Step
+  abbrev together : Answer.Done → List ℕ → Counts → List ℕ → List ℕ → List ℕ → ℕ → ℕ → Step
   together x l n ps ss ks p t =
       record {
         answer = Did (x .outcome);

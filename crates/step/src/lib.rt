@@ -12,7 +12,6 @@ use rules::ToneKey;
 use rules::Touched;
 use rules::Word;
 ghost use mathlib.Core.Path.{_≡_};
-ghost use mathlib.Core.Bool.{true, false};
 ghost use Prim.Native.Nat.{_≤_, _<_};
 ghost use lib.ListN.{length};
 ghost use Rattle.rules.specs.TheWord.{appended as appendedOf, undone as undoneOf, shapedOn};
@@ -295,17 +294,17 @@ fn put_numbers(lent: &mut [u8], n: Numbers)
     requires { ⌜ 8 ≤ length (now lent) ⌝ }
     ensures { λ _. ⌜ now (lent .exit) ≡ numbersPut (now (lent .entry)) n ⌝ }
 {
-    lent[1] = n.count;
-    lent[2] = n.tone;
-    lent[3] = n.closed as u8;
-    lent[4] = n.typed;
-    lent[5] = n.acted;
-    lent[6] = n.undone;
-    lent[7] = n.appended;
+    lent[layout::AT_COUNT] = n.count;
+    lent[layout::AT_TONE] = n.tone;
+    lent[layout::AT_CLOSED] = n.closed as u8;
+    lent[layout::AT_TYPED] = n.typed;
+    lent[layout::AT_ACTED] = n.acted;
+    lent[layout::AT_UNDONE] = n.undone;
+    lent[layout::AT_APPENDED] = n.appended;
 }
 
-// A key that a word in range has room for and its mode allows: kept, and counted by what it did. The letters are taken out of the record,
-// and changed where they are lent; all else is stored where it lies in the record's bytes, and only what changed.
+// A key that a word in range has room for and its mode allows: kept, and counted by what it did. The letters were taken out of the bytes,
+// and are changed where they are lent; of all else what the key changed is stored where it lies.
 fn typed(lent: &mut [u8], letters: &mut [u16], mode: u8, n: Numbers, key: u8) -> Outcome
     requires { ⌜ ReadyAt (now lent) (now letters) mode n key ⌝ }
     ensures { λ r. ⌜ TypedAt (stepOf (heldIn (now (lent .entry)) (now (letters .entry)) mode n) key) (now (lent .entry)) r (now (letters .exit)) (now (lent .exit)) ⌝ }
@@ -321,10 +320,21 @@ fn typed(lent: &mut [u8], letters: &mut [u16], mode: u8, n: Numbers, key: u8) ->
     let now = done.rest;
     let at = n.typed as usize;
     let count = n.count as usize;
-    lent[8 + at] = key;
-    put_appender(&mut lent[104..136], count, outcome, n.typed);
-    put_shapers(&mut lent[136..168], count, outcome, touched, n.typed);
-    lent[168] = toner(n.tone, now.tone, n.typed, lent[168]);
+    lent[layout::AT_KEYS + at] = key;
+    put_appender(
+        &mut lent[layout::AT_APPENDED_BY..layout::AT_SHAPED_BY],
+        count,
+        outcome,
+        n.typed,
+    );
+    put_shapers(
+        &mut lent[layout::AT_SHAPED_BY..layout::AT_TONED_BY],
+        count,
+        outcome,
+        touched,
+        n.typed,
+    );
+    lent[layout::AT_TONED_BY] = toner(n.tone, now.tone, n.typed, lent[layout::AT_TONED_BY]);
     let counts = counted(
         Counts {
             acted: n.acted,
@@ -357,8 +367,8 @@ fn refused(number: u8, value: usize) -> StepAnswer
     })
 }
 
-// A key that is not taken: the word is full, or else its mode does not allow the key. One question before it, for the compiler takes what
-// stands behind many for seldom run.
+// A key that is not taken: the word is full, or else its mode does not allow the key. One question leads here and not two: what stands
+// behind many, the compiler takes for seldom run.
 fn not_taken(at: usize) -> StepAnswer
     ensures { λ r. ⌜ r ≡ notTaken at ⌝ }
 {

@@ -1,6 +1,5 @@
 -- `lines::six_end` meets its contract, by its test.
 use mathlib.Core.Path.{sym, ap}
-use borrow.Author.Needs.{needs}
 use Rattle.lines.specs.Programs.{sixEnd}
 use Rattle.lines.proofs.six_end.Statement.{statement}
 use Rattle.lines.proofs.six_end.Tie as tie

@@ -1,5 +1,4 @@
 -- `records::keys_for` meets its contract, by its test.
-use mathlib.Core.Path.{sym}
 use borrow.Author.Needs.{needs}
 use borrow.Author.Tests.{eq-eqb, ne-eqb}
 use Rattle.rules.specs.TheWord.{noKey}

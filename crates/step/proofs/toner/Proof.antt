@@ -1,5 +1,4 @@
 -- `step::toner` meets its contract, by its tests.
-use borrow.Author.Needs.{needs}
 use borrow.Author.Tests.{eq-eqb, ne-eqb}
 use Rattle.rules.specs.Letters.{noTone}
 use Rattle.step.specs.LentLetters.{tonedThen}

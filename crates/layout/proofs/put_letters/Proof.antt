@@ -1,7 +1,7 @@
 -- `layout::put_letters` meets its contract: nothing, or the pairs of the letters in their place.
 use native.Mathlib.Omega.{arith}
+use lib.ListN.{length-take, length-drop}
 use borrow.Author.Needs.{needs}
-use Rattle.layout.proofs.Answers.{length-part}
 use Rattle.layout.proofs.InPlace.{nothing-put, alike, all-put}
 use Rattle.layout.proofs.put_letters.Statement.{statement}
 use Rattle.layout.proofs.put_letters.Tie as tie
@@ -17,7 +17,7 @@ put-letters-spec =
     (λ c κs.
     let args = c .before .before .before .before .args in
     let t = alike (args .letters .now) (args .buffer .now) (c .before .if1 .left) in
-    (t .0, length-part 40 64 (args .buffer .now) (omega (arith, t .1))))
+    (t .0, simp (length-take, length-drop) (omega (arith, t .1))))
     (λ c. search needs)
     (λ c.
     let args = c .before .before .before .before .before .before .before .args in

@@ -13,7 +13,7 @@ use Rattle.rules.specs.declared.Word.{Word}
 use Rattle.rules.proofs.StaysInRange.{Whole}
 use Rattle.layout.proofs.Pairs.{length-pairs}
 use Rattle.layout.specs.declared.RecordRead.{RecordRead}
-use Rattle.layout.specs.Places.{pairs, numbers, markByte, byte, part, isLong, isMark, wordFrom, noRecord, recordIf, asRecord, recordWrittenIf, recordWritten}
+use Rattle.layout.specs.Places.{pairs, numbers, markByte, asBytes, byte, part, isLong, isMark, wordFrom, noRecord, recordIf, asRecord, recordWrittenIf, recordWritten}
 
 -- a record with another mark, other arrays and another place of the tone's key
 abbrev pub withParts : Word → Bool → List ℕ → List ℕ → List ℕ → List ℕ → ℕ → Word
@@ -105,6 +105,9 @@ pub mark-byte : (b : Bool) → boolByte b ≡ markByte b
 mark-byte true = refl
 mark-byte false = refl
 
+abbrev pub headOf : Word → List ℕ
+headOf w = w .mode ∷ w .count ∷ w .tone ∷ markByte (w .closed) ∷ w .typed ∷ w .acted ∷ w .undone ∷ w .appended ∷ []
+
 abbrev pub headed : Word → List ℕ → List ℕ
 headed w l =
     set (set (set (set (set (set (set (set l 0 (w .mode)) 1 (w .count)) 2 (w .tone)) 3 (boolByte (w .closed))) 4 (w .typed)) 5 (w .acted)) 6 (w .undone)) 7 (w .appended)
@@ -154,15 +157,16 @@ filled-up {old} {front} {bs} {place} n e f =
     ap (λ (l : List ℕ). set l place n) (f .so ∙ ap (λ (l : List ℕ). front ++ l) (last-byte place old e)) ∙ set-at front (byte place old) [] n place (f .long)
 
 module _ (w : Word) (old : List ℕ) where
+  pub written : length old ≡ 169 → recordWritten w old ≡ asBytes w
+  unfolding recordWritten
+  written long = ap (λ (b : Bool). recordWrittenIf b w old) (eq-eqb (length old) 169 long)
+
   pub nothing-written : (length old ≡ 169 → ⊥) → (false ≡ isLong old) × (old ≡ recordWritten w old)
   unfolding recordWritten
   nothing-written h = let e = ne-eqb (length old) 169 h in (sym e, sym (ap (λ (b : Bool). recordWrittenIf b w old) e))
 
   module _ (long : length old ≡ 169) (whole : Whole w) where
-    abbrev head : List ℕ
-    head = w .mode ∷ w .count ∷ w .tone ∷ markByte (w .closed) ∷ w .typed ∷ w .acted ∷ w .undone ∷ w .appended ∷ []
-
-    head-filled : Filled old head 8 (headed w old)
+    head-filled : Filled old (headOf w) 8 (headed w old)
     head-filled =
         record {
           long = refl;
@@ -175,9 +179,7 @@ module _ (w : Word) (old : List ℕ) where
         by ≡ copyOf (w .«appended_by») (part 104 32 (putLetters (putKeys (headed w old) keys) letters)) →
         shaped ≡ copyOf (w .«shaped_by») (part 136 32 (putBy (putLetters (putKeys (headed w old) keys) letters) by)) →
         (true ≡ isLong old) × (set (putShaped (putBy (putLetters (putKeys (headed w old) keys) letters) by) shaped) 168 (w .«toned_by») ≡ recordWritten w old)
-    unfolding recordWritten
     all-written p q r s =
-        let e = eq-eqb (length old) 169 long in
         let lettered = filled 64 q (length-pairs (w .letters) ∙ omega (arith, whole .letters)) (filled-copy (w .keys) 32 p (whole .keys) head-filled) in
         let placed = filled-copy (w .«shaped_by») 32 s (whole .shaped-by) (filled-copy (w .«appended_by») 32 r (whole .by) lettered) in
-        (sym e, filled-up (w .«toned_by») long placed ∙ sym (ap (λ (b : Bool). recordWrittenIf b w old) e))
+        (sym (eq-eqb (length old) 169 long), filled-up (w .«toned_by») long placed ∙ sym (written long))

@@ -11,8 +11,9 @@ use lib.ListN.{length, take, drop, set, length-append}
 use lib.Seq.{take-at, drop-at, drop-drop, set-at, getD-drop}
 use Rattle.rules.specs.declared.Word.{Word}
 use Rattle.rules.proofs.StaysInRange.{Whole}
-use Rattle.layout.specs.Places.{pairs, markByte, bytesWith, byte, part, isLong, lettersPutIf, lettersPut}
-use Rattle.layout.proofs.Answers.{withParts}
+use Rattle.layout.specs.Places.{pairs, bytesWith, asBytes, byte, part, isLong, lettersPutIf, lettersPut}
+use Rattle.layout.proofs.Pairs.{length-pairs}
+use Rattle.layout.proofs.Answers.{withParts, headOf}
 
 -- the middle of three parts
 module _ (front mid rest : List ℕ) (place many : ℕ) (p : length front ≡ place) (m : length mid ≡ many) where
@@ -44,12 +45,9 @@ abbrev pub withToned : Word → ℕ → Word
 withToned w toned = withParts w (w .closed) (w .keys) (w .letters) (w .«appended_by») (w .«shaped_by») toned
 
 module _ (ls : List ℕ) (long : length ls ≡ 64) (w : Word) (whole : Whole w) where
-  abbrev head : List ℕ
-  head = w .mode ∷ w .count ∷ w .tone ∷ markByte (w .closed) ∷ w .typed ∷ w .acted ∷ w .undone ∷ w .appended ∷ []
-
   -- the bytes around each part
   abbrev to-letters : List ℕ
-  to-letters = head ++ w .keys
+  to-letters = headOf w ++ w .keys
 
   abbrev to-by : List ℕ
   to-by = to-letters ++ ls
@@ -58,7 +56,7 @@ module _ (ls : List ℕ) (long : length ls ≡ 64) (w : Word) (whole : Whole w) 
   to-shaped = to-by ++ w .«appended_by»
 
   length-to-letters : length to-letters ≡ 40
-  length-to-letters = length-append head (w .keys) ∙ omega (arith, whole .keys)
+  length-to-letters = length-append (headOf w) (w .keys) ∙ omega (arith, whole .keys)
 
   length-to-by : length to-by ≡ 104
   length-to-by = length-append to-letters ls ∙ omega (arith, length-to-letters, long)
@@ -87,9 +85,9 @@ module _ (ls : List ℕ) (long : length ls ≡ 64) (w : Word) (whole : Whole w) 
   pub key-put : (i k : ℕ) → i < 32 → set (bytesWith ls w) (8 + i) k ≡ bytesWith ls (withKeys w (set (w .keys) i k))
   key-put i k h =
       let past-keys = ls ++ (w .«appended_by» ++ past-by) in
-      let e : bytesWith ls w ≡ head ++ (w .keys ++ past-keys) = simp append-assoc in
-      let f : head ++ (set (w .keys) i k ++ past-keys) ≡ bytesWith ls (withKeys w (set (w .keys) i k)) = simp append-assoc in
-      ap (λ (l : List ℕ). set l (8 + i) k) e ∙ mid-set head (w .keys) past-keys 8 32 refl (whole .keys) i k h ∙ f
+      let e : bytesWith ls w ≡ headOf w ++ (w .keys ++ past-keys) = simp append-assoc in
+      let f : headOf w ++ (set (w .keys) i k ++ past-keys) ≡ bytesWith ls (withKeys w (set (w .keys) i k)) = simp append-assoc in
+      ap (λ (l : List ℕ). set l (8 + i) k) e ∙ mid-set (headOf w) (w .keys) past-keys 8 32 refl (whole .keys) i k h ∙ f
 
   pub by-put : (new : List ℕ) → putMid 104 32 (bytesWith ls w) new ≡ bytesWith ls (withBy w new)
   by-put new =
@@ -149,3 +147,7 @@ unfolding lettersPut
 letters-there ls long w whole =
     ap₂ (λ (a b : Bool). lettersPutIf (a && b) (w .letters) (bytesWith ls w)) (eq-eqb (length (w .letters)) 32 (whole .letters)) (eq-eqb (length (bytesWith ls w)) 169 (long-bytes ls long w whole)) ∙
     sym (ap (λ (y : List ℕ). take 40 (bytesWith ls w) ++ (pairs (w .letters) ++ y)) (drop-drop 64 40 (bytesWith ls w))) ∙ letters-put ls long w whole (pairs (w .letters))
+
+-- all the bytes of a record
+pub long-word : (w : Word) → Whole w → length (asBytes w) ≡ 169
+long-word w whole = long-bytes (pairs (w .letters)) (length-pairs (w .letters) ∙ omega (arith, whole .letters)) w whole

@@ -5,7 +5,7 @@ use mathlib.Core.List.{List, []}
 use mathlib.Core.Option.{Option, none, some}
 use Prim.Native.Nat.{ℕ}
 use denote.Ref.{RefT}
-use lib.Dec.{T}
+use lib.Dec.{T, eqb→eq}
 use lib.ListN.{length}
 use Rattle.rules.specs.CodePoints.{shown}
 use Rattle.rules.specs.TheWord.{newWord, wordOf, atFront, holding, outcomeOf}
@@ -20,7 +20,8 @@ use Rattle.rules.specs.declared.Word.{Word}
 use Rattle.rules.specs.declared.Refusal.{Refusal}
 use Rattle.rules.proofs.Refused.{refusal-given, refusal-none}
 use Rattle.rules.proofs.Tests.{is-true, is-false}
-use Rattle.layout.specs.Places.{asBytes, asRecord, isLong, isMark, byte, recordIf, recordWritten, recordWrittenIf}
+use Rattle.layout.specs.Places.{asBytes, asRecord, isLong, isMark, byte, recordIf, recordWritten}
+use Rattle.layout.proofs.Answers.{written}
 use Rattle.layout.proofs.RoundTrips.{read-whole}
 use Rattle.press.specs.StepAndShow.{Shown}
 use Rattle.felcantuzza.specs.Calls as Calls
@@ -44,8 +45,7 @@ module _ {R : Type 0} (b : Bool) (c : Call) (came-back : R) (over : Bool → Opt
 
 -- a record is written whole into bytes that are as long as one
 as-long : (w : Word) (lent : List ℕ) → T (isLong lent) → recordWritten w lent ≡ asBytes w
-unfolding recordWritten
-as-long w lent t = ap (λ (b : Bool). recordWrittenIf b w lent) (is-true (isLong lent) t)
+as-long w lent t = written w lent (eqb→eq (length lent) 169 t)
 
 long : (lent : List ℕ) → T (isRecord lent) → T (isLong lent)
 unfolding asRecord

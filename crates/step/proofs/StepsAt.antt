@@ -6,7 +6,7 @@ use Prim.Native.Nat.{ℕ, _<_}
 use native.Mathlib.Omega.{arith}
 use lib.Dec.{T, leb}
 use lib.ListN.{length}
-use borrow.Author.Tests.{eq-eqb, leb-true, leb-false, not-true, not-false}
+use borrow.Author.Tests.{leb-true, leb-false, not-true, not-false}
 use Rattle.rules.specs.TheWord.{mostKeys}
 use Rattle.rules.specs.AnswersInNumbers.{stepSays}
 use Rattle.rules.specs.KeyRoles.{isKey}
@@ -20,20 +20,15 @@ use Rattle.rules.specs.declared.StepAnswer.{StepAnswer}
 use Rattle.rules.specs.declared.StepAnswer.the-variants.{Did, Refused}
 use Rattle.rules.proofs.Refused.{refused-step}
 use Rattle.rules.proofs.StaysInRange.{Whole, step-in-range}
-use Rattle.layout.specs.Places.{pairs, bytesWith, asBytes, part, wordFrom, asRecord, recordWrittenIf, recordWritten, lettersPut}
+use Rattle.layout.specs.Places.{bytesWith, asBytes, part, wordFrom, asRecord, recordWritten, lettersPut}
 use Rattle.layout.specs.declared.RecordRead.{RecordRead}
-use Rattle.layout.proofs.Answers.{length-part}
-use Rattle.layout.proofs.Pairs.{length-pairs}
-use Rattle.layout.proofs.InPlace.{long-bytes, letters-there}
+use Rattle.layout.proofs.Answers.{length-part, written}
+use Rattle.layout.proofs.InPlace.{letters-there, long-word}
 use Rattle.layout.proofs.RoundTrips.{written-read, read-in-place, read-parts, read-long, read-whole}
 use Rattle.records.specs.declared.Numbers.{Numbers}
 use Rattle.records.specs.Numbers.{numbersOf, wordIn}
 use Rattle.step.specs.InPlace.{SteppedAt, refusedWith, bytesAfter, leaving, stepIf, stepAt, notTaken, heldIn, ReadyAt, TypedAt}
 use Rattle.step.proofs.Steps.{out-of-range, full, no-key}
-
-pub written : (w : Word) (old : List ℕ) → length old ≡ 169 → recordWritten w old ≡ asBytes w
-unfolding recordWritten
-written w old long = ap (λ (b : Bool). recordWrittenIf b w old) (eq-eqb (length old) 169 long)
 
 -- a step leaves its arrays as long as they were
 pub stepped-whole : (w : Word) (k : ℕ) → Whole w → Whole (step w k .word)
@@ -149,9 +144,6 @@ module _ (bs : List ℕ) (key : ℕ) where
           }
 
 -- over the bytes of a word
-pub long-word : (w : Word) → Whole w → length (asBytes w) ≡ 169
-long-word w whole = long-bytes (pairs (w .letters)) (length-pairs (w .letters) ∙ omega (arith, whole .letters)) w whole
-
 module _ (w : Word) (whole : Whole w) (key : ℕ) where
   of-word : stepAt (asBytes w) key ≡ leaving (step w key) (asBytes w)
   of-word = sym (is-step (asBytes w) key (record { is_record = true; word = w }) (sym (written-read w whole)) refl)

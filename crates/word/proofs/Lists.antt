@@ -18,9 +18,10 @@ use Rattle.rules.proofs.StaysInRange.{Whole}
 use Rattle.rules.proofs.Typing.{Held, of-modes, new-held, kept-mode, kept-keys, type-append, list-held, steps}
 use Rattle.layout.specs.Places.{asBytes, asRecord}
 use Rattle.layout.specs.declared.RecordRead.{RecordRead}
+use Rattle.layout.proofs.InPlace.{long-word}
 use Rattle.layout.proofs.RoundTrips.{written-read}
 use Rattle.step.specs.InPlace.{stepAt}
-use Rattle.step.proofs.StepsAt.{long-word, leaves}
+use Rattle.step.proofs.StepsAt.{leaves}
 
 module _ (mode : ℕ) (s : List ℕ) (i : ℕ) where
   abbrev pub counted : ℕ

@@ -8,7 +8,7 @@ use Rattle.rules.specs.TheWord.{newWord, holding}
 use Rattle.rules.specs.WhatComesBack.{typed}
 use Rattle.rules.specs.declared.Start.{Start}
 use Rattle.layout.specs.Places.{asBytes}
-use Rattle.step.proofs.StepsAt.{written}
+use Rattle.layout.proofs.Answers.{written}
 use Rattle.word.proofs.Lists.{long-so-far, one-more-in, all-typed, started}
 use Rattle.word.proofs.typed_all.Statement.{statement}
 use Rattle.word.proofs.typed_all.Tie as tie

@@ -1,4 +1,4 @@
--- `step::put_shaper` meets its contract: one store, or two, or none.
+-- `step::keeping::put_shaper` meets its contract: one store, or two, or none.
 use mathlib.Core.Path.{_≡_, sym, ap, subst, _∙_}
 use mathlib.Core.List.{List}
 use Prim.Native.Nat.{ℕ, _+_, _<_}
@@ -10,8 +10,8 @@ use Rattle.rules.specs.TheWord.{shapedOn}
 use Rattle.rules.specs.declared.Touched.{Touched}
 use Rattle.step.specs.LentLetters.{TouchesIn}
 use Rattle.step.proofs.States.{no-letter}
-use Rattle.step.proofs.put_shaper.Statement.{statement}
-use Rattle.step.proofs.put_shaper.Tie as tie
+use Rattle.step.proofs.keeping.put_shaper.Statement.{statement}
+use Rattle.step.proofs.keeping.put_shaper.Tie as tie
 
 known : (l : List ℕ) {g h : Touched} → TouchesIn (length l) g → g ≡ h → TouchesIn (length l) h
 known l t e = subst (TouchesIn (length l)) e t

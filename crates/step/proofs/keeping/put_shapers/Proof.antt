@@ -1,4 +1,4 @@
--- `step::put_shapers` meets its contract: the touched letters first, then the new letter where there is one.
+-- `step::keeping::put_shapers` meets its contract: the touched letters first, then the new letter where there is one.
 use mathlib.Core.Path.{sym, ap, _∙_}
 use mathlib.Core.List.{List}
 use Prim.Native.Nat.{ℕ}
@@ -7,8 +7,8 @@ use borrow.Author.Needs.{needs}
 use Rattle.rules.specs.TheWord.{noKey, shapedOn}
 use Rattle.step.specs.LentLetters.{byThen, shapedThen}
 use Rattle.step.proofs.States.{acts}
-use Rattle.step.proofs.put_shapers.Statement.{statement}
-use Rattle.step.proofs.put_shapers.Tie as tie
+use Rattle.step.proofs.keeping.put_shapers.Statement.{statement}
+use Rattle.step.proofs.keeping.put_shapers.Tie as tie
 
 pub put-shapers-spec : {M : Type 1} → statement M
 put-shapers-spec =

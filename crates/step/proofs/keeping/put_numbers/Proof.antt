@@ -1,12 +1,12 @@
--- `step::put_numbers` meets its contract: seven stores.
+-- `step::keeping::put_numbers` meets its contract: seven stores.
 use mathlib.Core.Path.{ap}
 use Prim.Native.Nat.{ℕ}
 use native.Mathlib.Omega.{arith}
 use lib.ListN.{set, length-set}
 use borrow.Author.Needs.{needs}
 use Rattle.layout.proofs.Answers.{mark-byte}
-use Rattle.step.proofs.put_numbers.Statement.{statement}
-use Rattle.step.proofs.put_numbers.Tie as tie
+use Rattle.step.proofs.keeping.put_numbers.Statement.{statement}
+use Rattle.step.proofs.keeping.put_numbers.Tie as tie
 
 pub put-numbers-spec : {M : Type 1} → statement M
 put-numbers-spec =

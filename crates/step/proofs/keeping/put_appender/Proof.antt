@@ -1,8 +1,8 @@
--- `step::put_appender` meets its contract: one store, unless the key acted.
+-- `step::keeping::put_appender` meets its contract: one store, unless the key acted.
 use borrow.Author.Needs.{needs}
 use Rattle.step.proofs.States.{adds}
-use Rattle.step.proofs.put_appender.Statement.{statement}
-use Rattle.step.proofs.put_appender.Tie as tie
+use Rattle.step.proofs.keeping.put_appender.Statement.{statement}
+use Rattle.step.proofs.keeping.put_appender.Tie as tie
 
 pub put-appender-spec : {M : Type 1} → statement M
 put-appender-spec =

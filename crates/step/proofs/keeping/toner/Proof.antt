@@ -1,9 +1,9 @@
--- `step::toner` meets its contract, by its tests.
+-- `step::keeping::toner` meets its contract, by its tests.
 use borrow.Author.Tests.{eq-eqb, ne-eqb}
 use Rattle.rules.specs.Letters.{noTone}
 use Rattle.step.specs.LentLetters.{tonedThen}
-use Rattle.step.proofs.toner.Statement.{statement}
-use Rattle.step.proofs.toner.Tie as tie
+use Rattle.step.proofs.keeping.toner.Statement.{statement}
+use Rattle.step.proofs.keeping.toner.Tie as tie
 
 pub toner-spec : {M : Type 1} → statement M
 toner-spec =

@@ -1,4 +1,3 @@
 pub mod Bools
-pub mod Arms
 pub mod Roles
 pub mod One

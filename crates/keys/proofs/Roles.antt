@@ -14,7 +14,7 @@ use Rattle.rules.specs.KeyRoles.{isCapital, lowerIf, lower, roleIn, role}
 use Rattle.rules.specs.declared.Role.{Role}
 use Rattle.rules.specs.declared.Role.the-variants.{NoRole}
 use Rattle.keys.proofs.Bools.{first}
-use Rattle.keys.proofs.Arms.{NoneIn, NoneOf}
+use Rattle.rules.proofs.Arms.{NoneIn, NoneOf}
 
 -- the keys of a table of roles
 abbrev pub keys : List (ℕ × Role) → List ℕ

@@ -1,4 +1,3 @@
-pub mod Tables
 pub mod Points
 pub mod Writes
 pub mod Finds

@@ -17,8 +17,8 @@ use Rattle.rules.specs.CodePoints.{Vowel, vowels, Sign, smallPoint, capitalPoin
 use Rattle.letters.specs.Alphabet.{inAlphabet}
 use Rattle.letters.specs.Rows.{pointTable, vowelRowIn, vowelRow, pointsIn, pointsOf, letterOf, signOf}
 use Rattle.keys.proofs.Bools.{either, same-bool}
-use Rattle.keys.proofs.Arms.{NoneOf}
-use Rattle.letters.proofs.Tables.{each, entry, eachBelow, below}
+use Rattle.rules.proofs.Arms.{NoneOf}
+use Rattle.rules.proofs.Tables.{each, entry, eachBelow, below}
 
 -- The k-th entry is the code point of its row and tone; it is that letter's of the alphabet, and so is its capital's.
 abbrev names : Sign → ℕ → Bool

@@ -17,7 +17,7 @@ use Rattle.rules.specs.Speller.{starts, Front, noLetter, aLetter}
 use Rattle.letters.specs.Alphabet.{inAlphabet}
 use Rattle.letters.specs.Rows.{pointTable, cased, signOf}
 use Rattle.letters.specs.Decoding.{foundIn, found, followsOn, oneByte, leastLead, InTwo, pointOfTwo, twoBytes, leastPoint, InThree, pointOfThree, threeBytes}
-use Rattle.letters.proofs.Tables.{eachBelow, below}
+use Rattle.rules.proofs.Tables.{eachBelow, below}
 use Rattle.letters.proofs.Points.{Right, right-at}
 use Rattle.letters.proofs.Decodes.{in-two, in-three}
 

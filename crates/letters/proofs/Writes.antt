@@ -19,7 +19,7 @@ use Rattle.rules.proofs.Tests.{is-true}
 use Rattle.letters.specs.Rows.{vowelRowIn, vowelRow, pointsIn, pointsOf}
 use Rattle.letters.specs.Writing.{isLetter, toneStands, isShaped, pointOr, bytesIf, letterBytes}
 use Rattle.keys.proofs.Bools.{first, second, either, same-bool}
-use Rattle.letters.proofs.Tables.{eachBelow, below}
+use Rattle.rules.proofs.Tables.{eachBelow, below}
 use Rattle.letters.proofs.Points.{Rowed, rowed-at, small-number, small-row, in-row, in-no-row}
 
 -- a number below 4096 is its letter's number, and no other is

@@ -5,7 +5,7 @@ ghost use mathlib.Core.List.{map};
 ghost use Prim.Native.Nat.{_+_, _≤_};
 ghost use lib.ListN.{length, drop};
 ghost use Rattle.rules.specs.TheWord.{letter};
-ghost use Rattle.rules.specs.TakingApart.{vowel, front, joins as joinsOf};
+ghost use Rattle.rules.specs.TakingApart.{front, joins as joinsOf};
 ghost use Rattle.rules.specs.TonePlace.{byCount, placeWithin, tonePlace};
 ghost use Rattle.parts.specs.Ends.{partsOf};
 use rules::CAPITAL;
@@ -20,21 +20,13 @@ const SECOND: usize = 1;
 
 const MIDDLE: usize = 1;
 
-// Vowel letters: a e i o u y in any shape.
-fn is_vowel(x: u16) -> bool
-    ensures { λ r. ⌜ r ≡ vowel (letter x .base) ⌝ }
-{
-    let b = rules::base(x);
-    (b == b'a') | ((b == b'e') | ((b == b'i') | ((b == b'o') | ((b == b'u') | (b == b'y')))))
-}
-
 // Where the longest run of vowel letters, or of others, ends that starts at `from`.
 fn run_end(s: &[u16], from: usize, vowels: bool) -> usize
     ensures { λ r. ⌜ r ≡ from + length (front vowels (map letter (drop from (now (s .entry))))) ⌝ }
 {
     let mut i = from;
     while i < s.len() {
-        if is_vowel(s[i]) != vowels {
+        if classes::is_vowel(rules::base(s[i])) != vowels {
             return i;
         }
         i += 1;

@@ -1,7 +1,9 @@
 pub mod Apprentices
 pub mod Cards
 pub mod Bools
+pub mod Tables
 pub mod Tests
+pub mod Arms
 pub mod Words
 pub mod Appends
 pub mod Edits

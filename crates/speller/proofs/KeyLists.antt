@@ -11,7 +11,7 @@ use lib.ListN.{length, take, drop, set, getD, length-set, drop-of-length-le}
 use lib.Seq.{drop-cons, take-suc-set}
 use lib.Ieee.Fits.{and-l, and-r}
 use borrow.Author.Tests.{ltb-true, eq-eqb, ne-eqb}
-use Rattle.keys.proofs.Arms.{NoneOf}
+use Rattle.rules.proofs.Arms.{NoneOf}
 use Rattle.rules.proofs.Tests.{is-true}
 use Rattle.rules.specs.Letters.{Letters, plain, horn, noTone, telex, small, is}
 use Rattle.rules.specs.TheWord.{letter}

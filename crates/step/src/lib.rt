@@ -160,9 +160,7 @@ fn role_in(closed: bool, mode: u8, key: u8) -> Role
 fn asks_second_horn(b: u8) -> bool
     ensures { λ r. ⌜ r ≡ asksSecondHorn b ⌝ }
 {
-    (b == b'i')
-        | ((b == b'u')
-            | ((b == b'c') | ((b == b'm') | ((b == b'n') | ((b == b'p') | (b == b't'))))))
+    ((b == b'i') | (b == b'u')) | classes::is_final(b)
 }
 
 // The horn that an appended letter puts on the u of an open huơ, khuơ or thuơ, and that u. Only letters without a role put it on.

@@ -9,7 +9,7 @@ use Rattle.rules.specs.Letters.{Letters, plain, is, same, isNil, oneOf, firstBa
 use Rattle.rules.specs.TakingApart.{initial, nucleus, final, leftovers, initials, finals, fit, rows, takes, stands, isThis, listed, fits, Check, check, firstThatHolds, agreesAt, agrees, couldBe, someAgrees, admitted}
 use Rattle.rules.specs.KeyRoles.{toneGoes}
 use Rattle.rules.proofs.Tests.{is-true, or-r, some-row-so}
-use Rattle.syllable.specs.Checks.{initialFault, sixth, firstFault}
+use Rattle.syllable.specs.Checks.{sixth, firstFault}
 use Rattle.rules.proofs.Bools.{ifSo}
 
 -- what passes a stronger test passes a weaker one
@@ -36,21 +36,10 @@ pub listed-free : (free : Bool) (w : Letters) → listed (initial w) (nucleus w)
 listed-free true w e = is-true _ (listed-agrees (initial w) (nucleus w) (final w) (subst T (sym e) tt))
 listed-free false w e = e
 
--- checks 2 and 4 by the initial's fault
-by-fault : (a b c d : Bool) (cs : List Check) → let k = firstThatHolds (check 2 b ∷ check 4 d ∷ []) in
-    firstThatHolds (check 1 a ∷ check 2 (eqb k 2) ∷ check 3 c ∷ check 4 (eqb k 4) ∷ cs) ≡ firstThatHolds (check 1 a ∷ check 2 b ∷ check 3 c ∷ check 4 d ∷ cs)
-by-fault a true c d cs = refl
-by-fault a false c true cs = refl
-by-fault a false c false cs = refl
-
-abbrev pub faultOf : Letters → ℕ
-faultOf w = initialFault (initial w) (firstBase (nucleus w))
-
-pub answered : (w : Letters) (tone : ℕ) (free : Bool) {one two three four five six seven : Bool} → one ≡ isNil (nucleus w) → two ≡ eqb (faultOf w) 2 → three ≡ not (isNil (leftovers w)) → four ≡ eqb (faultOf w) 4 → five ≡ not (oneOf (final w) finals) → six ≡ not (sixth free w) → seven ≡ not (fits (final w) tone) →
+pub answered : (w : Letters) (tone : ℕ) (free : Bool) {one two three four five six seven : Bool} → one ≡ isNil (nucleus w) → two ≡ not (oneOf (initial w) initials) → three ≡ not (isNil (leftovers w)) → four ≡ not (fit (initial w) (firstBase (nucleus w))) → five ≡ not (oneOf (final w) finals) → six ≡ not (sixth free w) → seven ≡ not (fits (final w) tone) →
     firstThatHolds (check 1 one ∷ check 2 two ∷ check 3 three ∷ check 4 four ∷ check 5 five ∷ check 6 six ∷ check 7 seven ∷ []) ≡ firstFault w tone free
 unfolding firstFault
-answered w tone free a b c d e f g =
-    (λ j. firstThatHolds (check 1 (a j) ∷ check 2 (b j) ∷ check 3 (c j) ∷ check 4 (d j) ∷ check 5 (e j) ∷ check 6 (f j) ∷ check 7 (g j) ∷ [])) ∙ by-fault (isNil (nucleus w)) (not (oneOf (initial w) initials)) (not (isNil (leftovers w))) (not (fit (initial w) (firstBase (nucleus w)))) (check 5 (not (oneOf (final w) finals)) ∷ check 6 (not (sixth free w)) ∷ check 7 (not (fits (final w) tone)) ∷ [])
+answered w tone free a b c d e f g j = firstThatHolds (check 1 (a j) ∷ check 2 (b j) ∷ check 3 (c j) ∷ check 4 (d j) ∷ check 5 (e j) ∷ check 6 (f j) ∷ check 7 (g j) ∷ [])
 
 -- no check holds: the letters are admitted, and the tone fits
 all-pass : (a b c d e s t : Bool) → let five = check 1 a ∷ check 2 b ∷ check 3 c ∷ check 4 d ∷ check 5 e ∷ [] in

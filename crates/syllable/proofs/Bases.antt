@@ -12,8 +12,9 @@ use Rattle.rules.specs.TakingApart.{rows}
 use Rattle.syllable.specs.Numbers.{num, plainOf, short}
 use Rattle.syllable.specs.Nuclei.{nucleiOf, withBasesIn, withBases, threeOf}
 use Rattle.rules.proofs.Bools.{pick, eqb-case}
+use Rattle.rules.proofs.Arms.{Passed, NoneIn, none-in}
 use Rattle.syllable.proofs.PackedWords.{shorts}
-use Rattle.syllable.proofs.Keys.{Rest, NoKey, rest, inArm, not-in}
+use Rattle.syllable.proofs.Keys.{Key, inArm, not-in}
 
 -- the base letters of the list, each where it first appears: the keys, in the order of the arms
 abbrev firsts : List ℕ → List Letters → List ℕ
@@ -35,16 +36,16 @@ abbrev allPlains : List Letters → Bool
 allPlains [] = true
 allPlains (z ∷ zs) = inArm (map alone plains) (plainOf (num z)) && allPlains zs
 
-none-with : (p : ℕ) → NoKey p (map alone plains) → (zs : List Letters) → T (allPlains zs) → withBasesIn p zs ≡ []
+none-with : (p : ℕ) → NoneIn (Key p) (map alone plains) → (zs : List Letters) → T (allPlains zs) → withBasesIn p zs ≡ []
 none-with p h [] t = refl
 none-with p h (z ∷ zs) t =
     eqb-case (λ b. pick (z ∷ withBasesIn p zs) b (withBasesIn p zs) ≡ []) p (plainOf (num z))
     (λ e. absurd (not-in p (map alone plains) h (subst (λ (n : ℕ). T (inArm (map alone plains) n)) (sym e) (and-l (inArm (map alone plains) (plainOf (num z))) (allPlains zs) t))))
     (λ _. none-with p h zs (and-r (inArm (map alone plains) (plainOf (num z))) (allPlains zs) t))
 
-pub missing : (p : ℕ) → Rest p (Unit {0}) (map alone plains) → (threeOf [] ≡ threeOf (withBases p)) × (length (withBases p) ≤ 3)
+pub missing : (p : ℕ) → Passed (Key p) (Unit {0}) (map alone plains) → (threeOf [] ≡ threeOf (withBases p)) × (length (withBases p) ≤ 3)
 unfolding withBases
-missing p h = let e : withBases p ≡ [] = none-with p (rest p (map alone plains) h) (nucleiOf rows) tt in (ap threeOf (sym e), rw e (omega arith))
+missing p h = let e : withBases p ≡ [] = none-with p (none-in (Key p) (Unit {0}) (map alone plains) h) (nucleiOf rows) tt in (ap threeOf (sym e), rw e (omega arith))
 
 -- each of them is a table's word
 shorts-with : (p : ℕ) (zs : List Letters) → T (shorts zs) → T (shorts (withBasesIn p zs))

@@ -10,6 +10,7 @@ use Rattle.rules.specs.Letters.{Letters, elem, oneOf}
 use Rattle.syllable.specs.Numbers.{nums, Packs}
 use Rattle.rules.proofs.Tests.{is-true}
 use Rattle.rules.proofs.Bools.{eqb-case}
+use Rattle.rules.proofs.Arms.{NoneIn}
 use Rattle.syllable.proofs.PackedWords.{shorts, one-is}
 
 -- a number is one of the keys of an arm
@@ -46,27 +47,12 @@ key-of p [] t = t
 key-of p (k ∷ []) t = eqb-case (λ b. T b → p ≡ k) p k (λ e _. e) (λ _ t. absurd t) t
 key-of p (k ∷ l ∷ ks) t = eqb-case (λ b. T (b || elem p (l ∷ ks)) → Key p (k ∷ l ∷ ks)) p k (λ e _. inl e) (λ _ t. inr (key-of p (l ∷ ks) t)) t
 
--- what is left to the arm `_`: a number that is no key of any arm, in the order of the arms
-abbrev pub Rest : ℕ → Type 0 → List (List ℕ) → Type 0
-Rest p A [] = A
-Rest p A (ks ∷ kss) = Rest p (A × (Key p ks → ⊥)) kss
-
-abbrev pub NoKey : ℕ → List (List ℕ) → Type 0
-NoKey p [] = Unit {0}
-NoKey p (ks ∷ kss) = (Key p ks → ⊥) × NoKey p kss
-
-no-key : (p : ℕ) (A : Type 0) (kss : List (List ℕ)) → Rest p A kss → A × NoKey p kss
-no-key p A [] h = (h, tt)
-no-key p A (ks ∷ kss) h = let t = no-key p (A × (Key p ks → ⊥)) kss h in (t .0 .0, (t .0 .1, t .1))
-
-pub rest : (p : ℕ) (kss : List (List ℕ)) → Rest p (Unit {0}) kss → NoKey p kss
-rest p kss h = no-key p (Unit {0}) kss h .1
-
+-- a number is a key of some arm
 abbrev pub inArm : List (List ℕ) → ℕ → Bool
 inArm [] k = false
 inArm (ks ∷ kss) k = elim (elem k ks) [ true ↦ true | false ↦ inArm kss k ]
 
-pub not-in : (p : ℕ) (kss : List (List ℕ)) → NoKey p kss → T (inArm kss p) → ⊥
+pub not-in : (p : ℕ) (kss : List (List ℕ)) → NoneIn (Key p) kss → T (inArm kss p) → ⊥
 not-in p [] h t = t
 not-in p (ks ∷ kss) h t = go (elem p ks) refl t (not-in p kss (h .1))
   where
@@ -81,7 +67,7 @@ isIn ls k = elem k ls
 pub is-elem : (p : ℕ) (ls ks : List ℕ) → T (every (isIn ls) ks) → Key p ks → true ≡ elem p ls
 is-elem p ls ks t h = sym (is-true (elem p ls) (holds (isIn ls) p ks t h))
 
-pub no-elem : (p : ℕ) (ls : List ℕ) (kss : List (List ℕ)) → T (every (inArm kss) ls) → NoKey p kss → false ≡ elem p ls
+pub no-elem : (p : ℕ) (ls : List ℕ) (kss : List (List ℕ)) → T (every (inArm kss) ls) → NoneIn (Key p) kss → false ≡ elem p ls
 no-elem p ls kss t n = go (elem p ls) refl
   where
     go : (b : Bool) → elem p ls ≡ b → false ≡ elem p ls
@@ -93,5 +79,5 @@ module _ {p : ℕ} {w : Letters} (c : Packs p w) (zs : List Letters) (s : T (sho
   pub is-one : (ks : List ℕ) → T (every (isIn (nums zs)) ks) → Key p ks → true ≡ oneOf w zs
   is-one ks t h = is-elem p (nums zs) ks t h ∙ one-is c zs s
 
-  pub no-one : (kss : List (List ℕ)) → T (every (inArm kss) (nums zs)) → Rest p (Unit {0}) kss → false ≡ oneOf w zs
-  no-one kss t h = no-elem p (nums zs) kss t (rest p kss h) ∙ one-is c zs s
+  pub no-one : (kss : List (List ℕ)) → T (every (inArm kss) (nums zs)) → NoneIn (Key p) kss → false ≡ oneOf w zs
+  no-one kss t h = no-elem p (nums zs) kss t h ∙ one-is c zs s

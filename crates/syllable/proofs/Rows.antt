@@ -13,8 +13,9 @@ use Rattle.syllable.specs.Numbers.{nums, Packs}
 use Rattle.syllable.specs.Nuclei.{noRow, rowIn, rowOf}
 use Rattle.rules.proofs.Tests.{is-true}
 use Rattle.rules.proofs.Bools.{pick, and-false}
+use Rattle.rules.proofs.Arms.{Passed, NoneIn, none-in}
 use Rattle.syllable.proofs.PackedWords.{shorts, one-is}
-use Rattle.syllable.proofs.Keys.{Key, keys, every, holds, Rest, NoKey, rest, inArm, isIn, no-elem, is-one, no-one}
+use Rattle.syllable.proofs.Keys.{Key, keys, every, holds, inArm, isIn, no-elem, is-one, no-one}
 
 -- the place of the row that has a nucleus, by its number
 abbrev pub rowNumber : ℕ → List Row → ℕ
@@ -69,7 +70,7 @@ abbrev armed : List Row → Bool
 armed [] = true
 armed (r ∷ rs) = every (inArm arms) (nums (r .nuclei)) && armed rs
 
-none-of : (p : ℕ) (rs : List Row) → T (armed rs) → NoKey p arms → rowNumber p rs ≡ length rs
+none-of : (p : ℕ) (rs : List Row) → T (armed rs) → NoneIn (Key p) arms → rowNumber p rs ≡ length rs
 none-of p [] t h = refl
 none-of p (r ∷ rs) t h =
     λ j. pick 0 (sym (no-elem p (nums (r .nuclei)) arms (and-l (every (inArm arms) (nums (r .nuclei))) (armed rs) t) h) j) (suc (none-of p rs (and-r (every (inArm arms) (nums (r .nuclei))) (armed rs) t) h j))
@@ -96,11 +97,11 @@ module _ {p q : ℕ} {v f : Letters} (n : Packs p v) (e : Packs q f) where
     pub takes-it : T (every (isIn (nums (endings (row i)))) (keys (endings (row i)))) → Key q (keys (endings (row i))) → true ≡ inRow (rowOf v) f
     takes-it u k = is-one e (endings (row i)) s (keys (endings (row i))) u k ∙ in-row
 
-    pub leaves-it : T (every (inArm (keys (endings (row i)) ∷ [])) (nums (endings (row i)))) → Rest q (Unit {0}) (keys (endings (row i)) ∷ []) → false ≡ inRow (rowOf v) f
-    leaves-it u k = no-one e (endings (row i)) s (keys (endings (row i)) ∷ []) u k ∙ in-row
+    pub leaves-it : T (every (inArm (keys (endings (row i)) ∷ [])) (nums (endings (row i)))) → Passed (Key q) (Unit {0}) (keys (endings (row i)) ∷ []) → false ≡ inRow (rowOf v) f
+    leaves-it u k = no-one e (endings (row i)) s (keys (endings (row i)) ∷ []) u (none-in (Key q) (Unit {0}) (keys (endings (row i)) ∷ []) k) ∙ in-row
 
     pub opens : elem q (nums (endings (row i))) ≡ inRow (rowOf v) f
     opens = one-is e (endings (row i)) s ∙ in-row
 
-  pub unlisted : Rest p (Unit {0}) arms → false ≡ inRow (rowOf v) f
-  unlisted h = (λ j. and-false (isNil f) j || false) ∙ ap (λ (r : Row). inRow r f) (sym (row-is n 8 (none-of p rows tt (rest p arms h))))
+  pub unlisted : Passed (Key p) (Unit {0}) arms → false ≡ inRow (rowOf v) f
+  unlisted h = (λ j. and-false (isNil f) j || false) ∙ ap (λ (r : Row). inRow r f) (sym (row-is n 8 (none-of p rows tt (none-in (Key p) (Unit {0}) arms h))))

@@ -1,13 +1,9 @@
 -- What the code answers of the checks on a word, as equations to document 01's definitions.
 use mathlib.Core.Bool.{Bool, true, false}
-use mathlib.Core.List.{[], _∷_, _++_}
+use mathlib.Core.List.{_++_}
 use Prim.Native.Nat.{ℕ}
 use Rattle.rules.specs.Letters.{Letters}
-use Rattle.rules.specs.TakingApart.{initial, nucleus, final, listed, someAgrees, firstThatHolds, unknownInitial, unfitInitial, oneToFive, sixAndSeven}
-
--- the first of the two checks on an initial that holds, by the first vowel's base
-abbrev pub initialFault : Letters → ℕ → ℕ
-initialFault ini v = firstThatHolds (unknownInitial ini ∷ unfitInitial ini v ∷ [])
+use Rattle.rules.specs.TakingApart.{initial, nucleus, final, listed, someAgrees, firstThatHolds, oneToFive, sixAndSeven}
 
 -- what check 6 asks for: the nucleus is listed or, where it is free, some listed nucleus agrees
 abbrev pub sixth : Bool → Letters → Bool

@@ -5,10 +5,10 @@ ghost use mathlib.Core.List.{map};
 ghost use Prim.Native.Nat.{_<_};
 ghost use Rattle.rules.specs.Letters.{Letters, oneOf, firstBase};
 ghost use Rattle.rules.specs.TheWord.{letter};
-ghost use Rattle.rules.specs.TakingApart.{finals, stop as stopOf, fits as fitsOf, verdict as verdictOf, admitted as admittedOf};
+ghost use Rattle.rules.specs.TakingApart.{initials, fit, finals, stop as stopOf, fits as fitsOf, verdict as verdictOf, admitted as admittedOf};
 ghost use Rattle.rules.specs.KeyRoles.{toneGoes};
 ghost use Rattle.syllable.specs.Numbers.{digitAt, packed as packedOf, Packs};
-ghost use Rattle.syllable.specs.Checks.{initialFault, firstFault};
+ghost use Rattle.syllable.specs.Checks.{firstFault};
 
 mod nuclei;
 mod words;
@@ -41,44 +41,6 @@ fn packed(part: &[u16]) -> u64
     three
 }
 
-// An initial: 2 if it is unknown, 4 if it does not fit the first vowel, by its base; else 0.
-fn initial_fault(ini: u64, v: u8) -> u8
-    ensures { λ r. ⌜ ((w : Letters) → Packs ini w → r ≡ initialFault w v) ⌝ }
-{
-    let fits = match ini {
-        NONE | B | D | DD | H | L | M | N | P | R | S | T | V | X => true,
-        CH | KH | NH | PH | TH | TR => true,
-        C | NG => !((v == b'e') | ((v == b'i') | (v == b'y'))),
-        G => !((v == b'e') | (v == b'y')),
-        K => (v == b'e') | ((v == b'i') | (v == b'y')),
-        GH | NGH => (v == b'e') | (v == b'i'),
-        GI => !((v == b'i') | (v == b'y')),
-        QU => !(v == b'u'),
-        _ => return 2,
-    };
-    if fits { 0 } else { 4 }
-}
-
-// Finals: none, and these.
-fn known_final(fin: u64) -> bool
-    ensures { λ r. ⌜ ((w : Letters) → Packs fin w → r ≡ oneOf w finals) ⌝ }
-{
-    match fin {
-        NONE | C | CH | M | N | NG | NH | P | T => true,
-        _ => false,
-    }
-}
-
-// A stop: c, ch, p or t.
-fn stop(fin: u64) -> bool
-    ensures { λ r. ⌜ ((w : Letters) → Packs fin w → r ≡ stopOf w) ⌝ }
-{
-    match fin {
-        C | CH | P | T => true,
-        _ => false,
-    }
-}
-
 // The base of a word's first letter, 0 where there is none.
 fn first_base(p: u64) -> u8
     ensures { λ r. ⌜ ((w : Letters) → Packs p w → r ≡ firstBase w) ⌝ }
@@ -86,11 +48,74 @@ fn first_base(p: u64) -> u8
     (p % SHAPE / 2) as u8
 }
 
+// Initials: none, a letter of that class, and these.
+fn known_initial(ini: u64) -> bool
+    ensures { λ r. ⌜ ((w : Letters) → Packs ini w → r ≡ oneOf w initials) ⌝ }
+{
+    if ini == NONE {
+        return true;
+    }
+    if ini < SHAPE {
+        return classes::is_initial(first_base(ini));
+    }
+    match ini {
+        DD | CH | GH | GI | KH | NG | NH | PH | QU | TH | TR | NGH => true,
+        _ => false,
+    }
+}
+
+// Does the first letter of the nucleus, by its base, fit the initial.
+fn initial_fits(ini: u64, v: u8) -> bool
+    ensures { λ r. ⌜ ((w : Letters) → Packs ini w → r ≡ fit w v) ⌝ }
+{
+    match ini {
+        C | NG => !((v == b'e') | ((v == b'i') | (v == b'y'))),
+        G => !((v == b'e') | (v == b'y')),
+        K => (v == b'e') | ((v == b'i') | (v == b'y')),
+        GH | NGH => (v == b'e') | (v == b'i'),
+        GI => !((v == b'i') | (v == b'y')),
+        QU => !(v == b'u'),
+        _ => true,
+    }
+}
+
+// Finals: none, a letter of that class, and these.
+fn known_final(fin: u64) -> bool
+    ensures { λ r. ⌜ ((w : Letters) → Packs fin w → r ≡ oneOf w finals) ⌝ }
+{
+    if fin == NONE {
+        return true;
+    }
+    if fin < SHAPE {
+        return classes::is_final(first_base(fin));
+    }
+    match fin {
+        CH | NG | NH => true,
+        _ => false,
+    }
+}
+
+// Stops: a letter of that class, and ch.
+fn stop(fin: u64) -> bool
+    ensures { λ r. ⌜ ((w : Letters) → Packs fin w → r ≡ stopOf w) ⌝ }
+{
+    if fin == NONE {
+        return false;
+    }
+    if fin < SHAPE {
+        return classes::is_stop(first_base(fin));
+    }
+    fin == CH
+}
+
 // Fits: tone 1 or 5, or the final is no stop.
 fn tone_fits(fin: u64, tone: u8) -> bool
     ensures { λ r. ⌜ ((f : Letters) → Packs fin f → r ≡ fitsOf f tone) ⌝ }
 {
-    ((tone == ACUTE) | (tone == DOT)) | !stop(fin)
+    if (tone == ACUTE) | (tone == DOT) {
+        return true;
+    }
+    !stop(fin)
 }
 
 // The first of the seven checks that holds, or 0: the one look that verdict and admission take at a word.
@@ -106,15 +131,14 @@ fn ask(s: &[u16], tone: u8, free: bool) -> u8
         return 1;
     }
     let ini = packed(&s[0..i]);
-    let nuc = packed(&s[i..n]);
-    let fault = initial_fault(ini, first_base(nuc));
-    if fault == 2 {
+    if !known_initial(ini) {
         return 2;
     }
     if f != s.len() {
         return 3;
     }
-    if fault == 4 {
+    let nuc = packed(&s[i..n]);
+    if !initial_fits(ini, first_base(nuc)) {
         return 4;
     }
     let fin = packed(&s[n..f]);

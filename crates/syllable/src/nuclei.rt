@@ -54,7 +54,10 @@ fn in_table(nuc: u64, fin: u64) -> bool
 fn takes(ini: u64, nuc: u64, fin: u64) -> bool
     ensures { λ r. ⌜ ((w v f : Letters) → Packs ini w → Packs nuc v → Packs fin f → r ≡ takesOf w (rowOf v) v f) ⌝ }
 {
-    in_table(nuc, fin) | ((ini == GI) & ((nuc == EE) & (fin == NG)))
+    if in_table(nuc, fin) {
+        return true;
+    }
+    (ini == GI) & ((nuc == EE) & (fin == NG))
 }
 
 // uơ stands only after h, kh and th, yê and yêu only after no initial or qu. After qu, no nucleus of two or more letters begins with o in any shape.

@@ -42,8 +42,6 @@ pub const UW: u64 = U + SHAPE * HORN as u64;
 pub const Y: u64 = 2 * b'y' as u64 + 1;
 
 // Other letters.
-pub const B: u64 = 2 * b'b' as u64 + 1;
-
 pub const C: u64 = 2 * b'c' as u64 + 1;
 
 pub const D: u64 = 2 * b'd' as u64 + 1;
@@ -56,8 +54,6 @@ pub const H: u64 = 2 * b'h' as u64 + 1;
 
 pub const K: u64 = 2 * b'k' as u64 + 1;
 
-pub const L: u64 = 2 * b'l' as u64 + 1;
-
 pub const M: u64 = 2 * b'm' as u64 + 1;
 
 pub const N: u64 = 2 * b'n' as u64 + 1;
@@ -68,13 +64,7 @@ pub const Q: u64 = 2 * b'q' as u64 + 1;
 
 pub const R: u64 = 2 * b'r' as u64 + 1;
 
-pub const S: u64 = 2 * b's' as u64 + 1;
-
 pub const T: u64 = 2 * b't' as u64 + 1;
-
-pub const V: u64 = 2 * b'v' as u64 + 1;
-
-pub const X: u64 = 2 * b'x' as u64 + 1;
 
 // Initials and finals of more than one letter.
 pub const CH: u64 = C + NEXT * H;

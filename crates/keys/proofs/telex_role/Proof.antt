@@ -1,7 +1,7 @@
 -- `keys::telex_role` meets its contract: each arm is its row of the table, in either case, and the last is for the keys of no row.
 use mathlib.Core.Path.{refl}
 use Rattle.rules.specs.KeyRoles.{telexRoles}
-use Rattle.keys.proofs.Arms.{none-in}
+use Rattle.rules.proofs.Arms.{none-in}
 use Rattle.keys.proofs.Roles.{keys, InEither, in-either, in-neither}
 use Rattle.keys.proofs.telex_role.Statement.{statement}
 use Rattle.keys.proofs.telex_role.Tie as tie

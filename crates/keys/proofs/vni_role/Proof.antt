@@ -1,6 +1,6 @@
 -- `keys::vni_role` meets its contract: each arm is its row of the table, and the last is for the keys of no row.
 use Rattle.rules.specs.KeyRoles.{vniRoles}
-use Rattle.keys.proofs.Arms.{none-of}
+use Rattle.rules.proofs.Arms.{none-of}
 use Rattle.keys.proofs.Roles.{keys, in-none}
 use Rattle.keys.proofs.vni_role.Statement.{statement}
 use Rattle.keys.proofs.vni_role.Tie as tie

@@ -3,7 +3,7 @@ use mathlib.Core.Path.{sym, ap, _∙_}
 use borrow.Author.Needs.{needs}
 use Rattle.rules.specs.TheWord.{letter}
 use Rattle.rules.specs.Speller.{keyFor, telexShapeKeys, vniShapeKeys}
-use Rattle.keys.proofs.Arms.{none-of}
+use Rattle.rules.proofs.Arms.{none-of}
 use Rattle.speller.proofs.KeyLists.{marks, no-key, in-telex, in-vni}
 use Rattle.speller.proofs.shape_key.Statement.{statement}
 use Rattle.speller.proofs.shape_key.Tie as tie

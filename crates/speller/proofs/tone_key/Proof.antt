@@ -1,7 +1,7 @@
 -- `speller::tone_key` meets its contract: each arm is its row of the mode's table, and the last is for no tone.
 use mathlib.Core.Path.{sym, ap}
 use Rattle.rules.specs.Speller.{keyFor, telexToneKeys, vniToneKeys}
-use Rattle.keys.proofs.Arms.{none-of}
+use Rattle.rules.proofs.Arms.{none-of}
 use Rattle.speller.proofs.KeyLists.{marks, no-key, in-telex, in-vni}
 use Rattle.speller.proofs.tone_key.Statement.{statement}
 use Rattle.speller.proofs.tone_key.Tie as tie

@@ -1,14 +1,14 @@
 -- `syllable::tone_fits` meets its contract. Assumes nothing.
+use mathlib.Core.Path.{sym}
 use mathlib.Core.Bool.{not, _||_}
-use mathlib.Core.List.{[], _∷_}
-use Rattle.rules.specs.Letters.{acute, dot, elem}
-use Rattle.rules.specs.TakingApart.{fits}
+use Rattle.rules.specs.TakingApart.{stop, fits}
 use Rattle.syllable.proofs.tone_fits.Statement.{statement}
 use Rattle.syllable.proofs.tone_fits.Tie as tie
 
-returns : tie.Need-returns
-unfolding fits
-returns c f q j = elem (c .before .args .tone) (acute ∷ dot ∷ []) || not (c .stop .ensures f q j)
-
 pub tone-fits-spec : {M : Type 1} → statement M
-tone-fits-spec = tie.close (tie.spec (λ c κs. tt) returns)
+unfolding fits
+tone-fits-spec =
+    tie.close (tie.spec
+    (λ c f q j. sym (c .if1 .taken) j || not (stop f))
+    (λ c κs. tt)
+    (λ c f q j. sym (c .before .if1 .left) j || not (c .stop .ensures f q j)))

@@ -10,7 +10,7 @@ use Rattle.rules.specs.TheWord.{number}
 use Rattle.rules.specs.CodePoints.{vowels}
 use Rattle.letters.specs.Rows.{letterOf, cased}
 use Rattle.letters.proofs.Points.{numbers}
-use Rattle.letters.proofs.Tables.{entry}
+use Rattle.rules.proofs.Tables.{entry}
 use Rattle.letters.proofs.vowels.letter.Statement.{statement}
 use Rattle.letters.proofs.vowels.letter.Tie as tie
 

@@ -1,7 +1,7 @@
 -- `letters::vowels::row` meets its contract: each arm is its row, and the last is for the letters of no row.
 use Rattle.rules.specs.CodePoints.{vowels}
 use Rattle.letters.specs.Rows.{vowelRow}
-use Rattle.keys.proofs.Arms.{none-of}
+use Rattle.rules.proofs.Arms.{none-of}
 use Rattle.letters.proofs.Points.{numbers, no-row}
 use Rattle.letters.proofs.vowels.row.Statement.{statement}
 use Rattle.letters.proofs.vowels.row.Tie as tie

@@ -36,7 +36,7 @@
 #ifndef FELCANTUZZA_H
 #define FELCANTUZZA_H
 
-#define FZ_VERSION "0.18"
+#define FZ_VERSION "0.19"
 
 /* Lengths in bytes. */
 #define FZ_WORD 169 /* a word */

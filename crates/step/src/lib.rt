@@ -13,7 +13,6 @@ use rules::Touched;
 use rules::Word;
 ghost use mathlib.Core.Path.{_≡_};
 ghost use Prim.Native.Nat.{_≤_, _<_};
-ghost use lib.ListN.{length};
 ghost use Rattle.rules.specs.TheWord.{appended as appendedOf, undone as undoneOf};
 ghost use Rattle.rules.specs.KeyRoles.{letterOfKey, asksSecondHorn, undo as undoOf, toneDoes, unlessClosed, role as roleOf};
 ghost use Rattle.rules.specs.LettersOfAMode.{AllFine};

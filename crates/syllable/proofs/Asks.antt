@@ -1,12 +1,12 @@
 -- The checks on a word as `ask` makes them, and what its answer says: the verdict where the nucleus is not free, and whether a tone goes where it is.
-use mathlib.Core.Path.{_≡_, refl, sym, subst, _∙_}
+use mathlib.Core.Path.{_≡_, refl, sym, subst}
 use mathlib.Core.Bool.{Bool, true, false, not, _&&_, _||_}
-use mathlib.Core.List.{List, [], _∷_, _++_}
+use mathlib.Core.List.{[], _∷_, _++_}
 use Prim.Native.Nat.{ℕ}
 use lib.Dec.{T, eqb}
 use lib.Ieee.Fits.{and-i, and-l, and-r}
 use Rattle.rules.specs.Letters.{Letters, plain, is, same, isNil, oneOf, firstBase}
-use Rattle.rules.specs.TakingApart.{initial, nucleus, final, leftovers, initials, finals, fit, rows, takes, stands, isThis, listed, fits, Check, check, firstThatHolds, agreesAt, agrees, couldBe, someAgrees, admitted}
+use Rattle.rules.specs.TakingApart.{initial, nucleus, final, leftovers, initials, finals, fit, rows, takes, stands, isThis, listed, fits, check, firstThatHolds, agreesAt, agrees, couldBe, someAgrees, admitted}
 use Rattle.rules.specs.KeyRoles.{toneGoes}
 use Rattle.rules.proofs.Tests.{is-true, or-r, some-row-so}
 use Rattle.syllable.specs.Checks.{sixth, firstFault}

@@ -10,8 +10,8 @@ use lib.ListN.{getD}
 use Rattle.rules.specs.Letters.{elem, characters}
 use Rattle.rules.proofs.Tests.{either}
 use Rattle.rules.proofs.Tables.{each, entry, eachBelow, below}
-use Rattle.rules.proofs.Arms.{NoneOf, no-elem}
-use Rattle.classes.specs.LetterClasses.{Class, classOf, number}
+use Rattle.rules.proofs.Arms.{NoneOf, none-elem}
+use Rattle.classes.specs.LetterClasses.{Class, classOf, marksOf}
 
 abbrev pub alphabet : List ℕ
 alphabet = characters "abcdefghijklmnopqrstuvwxyz"
@@ -23,23 +23,23 @@ table =
     6 ∷ 1 ∷ 14 ∷ 0 ∷ 2 ∷ 2 ∷ 14 ∷ 1 ∷ 2 ∷ 0 ∷ 2 ∷ 1 ∷ 0 ∷ []
 
 abbrev right : ℕ → ℕ → Bool
-right k n = eqb n (number (classOf (code "a" + k)))
+right k n = eqb n (marksOf (classOf (code "a" + k)))
 
 all-right : T (each right table)
 all-right = tt
 
-pub at : (k : ℕ) {b : ℕ} → T (ltb k 26) → b ≡ code "a" + k → getD table k 0 ≡ number (classOf b)
-at k t e = eqb→eq (getD table k 0) (number (classOf (code "a" + k))) (entry right table all-right k (ltb→lt k 26 t)) ∙ ap (λ (n : ℕ). number (classOf n)) (sym e)
+pub at : (k : ℕ) {b : ℕ} → T (ltb k 26) → b ≡ code "a" + k → getD table k 0 ≡ marksOf (classOf b)
+at k t e = eqb→eq (getD table k 0) (marksOf (classOf (code "a" + k))) (entry right table all-right k (ltb→lt k 26 t)) ∙ ap (λ (n : ℕ). marksOf (classOf n)) (sym e)
 
 -- no letter a to z
 abbrev letterOrNone : ℕ → Bool
-letterOrNone b = elem b alphabet || eqb 0 (number (classOf b))
+letterOrNone b = elem b alphabet || eqb 0 (marksOf (classOf b))
 
 none-outside : T (eachBelow letterOrNone 256)
 none-outside = tt
 
-pub no-class : (b : ℕ) → b < 256 → NoneOf b alphabet → 0 ≡ number (classOf b)
-no-class b h n = either (elem b alphabet) (eqb 0 (number (classOf b))) (λ t. absurd (no-elem b alphabet n t)) (eqb→eq 0 (number (classOf b))) (below letterOrNone 256 none-outside b h)
+pub no-class : (b : ℕ) → b < 256 → NoneOf b alphabet → 0 ≡ marksOf (classOf b)
+no-class b h n = either (elem b alphabet) (eqb 0 (marksOf (classOf b))) (λ t. absurd (none-elem b alphabet n t)) (eqb→eq 0 (marksOf (classOf b))) (below letterOrNone 256 none-outside b h)
 
 -- a class has a mark exactly if its number has it
 abbrev has : ℕ → ℕ → Bool
@@ -52,9 +52,9 @@ pub record Marked (n : ℕ) (c : Class) : Type 0 where
   pub stop : has 8 n ≡ c .isStop
 
 abbrev summed : Bool → Bool → Bool → Bool → ℕ
-summed v i f s = number (record { isVowel = v; isInitial = i; isFinal = f; isStop = s })
+summed v i f s = marksOf (record { isVowel = v; isInitial = i; isFinal = f; isStop = s })
 
-pub marked : (c : Class) {n : ℕ} → n ≡ number c → Marked n c
+pub marked : (c : Class) {n : ℕ} → n ≡ marksOf c → Marked n c
 marked c e =
     let m = go (c .isVowel) (c .isInitial) (c .isFinal) (c .isStop) in
     record { vowel = ap (has 1) e ∙ m .0; initial = ap (has 2) e ∙ m .1; final = ap (has 4) e ∙ m .2; stop = ap (has 8) e ∙ m .3 }

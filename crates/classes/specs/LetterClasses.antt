@@ -29,5 +29,5 @@ abbrev pub markIf : Bool → ℕ → ℕ
 markIf true m = m
 markIf false m = 0
 
-abbrev pub number : Class → ℕ
-number c = markIf (c .isVowel) 1 + (markIf (c .isInitial) 2 + (markIf (c .isFinal) 4 + markIf (c .isStop) 8))
+abbrev pub marksOf : Class → ℕ
+marksOf c = markIf (c .isVowel) 1 + (markIf (c .isInitial) 2 + (markIf (c .isFinal) 4 + markIf (c .isStop) 8))

@@ -2,7 +2,7 @@
 ghost use mathlib.Core.Path.{_≡_};
 ghost use Rattle.rules.specs.Letters.{oneOf};
 ghost use Rattle.rules.specs.TakingApart.{vowel, initials, finals, stop};
-ghost use Rattle.classes.specs.LetterClasses.{alone, classOf, number};
+ghost use Rattle.classes.specs.LetterClasses.{alone, classOf, marksOf};
 
 // A class is the sum of its marks.
 const NO_CLASS: u8 = 0;
@@ -21,7 +21,7 @@ const INITIAL_FINAL_STOP: u8 = INITIAL + FINAL + STOP;
 
 // The table: an entry a line. It is a `match` and no array because the compiler keeps a `match` in its constants, and writes an array to the stack at each use.
 fn class(base: u8) -> u8
-    ensures { λ r. ⌜ r ≡ number (classOf base) ⌝ }
+    ensures { λ r. ⌜ r ≡ marksOf (classOf base) ⌝ }
 {
     match base {
         b'a' => VOWEL,

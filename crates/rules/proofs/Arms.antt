@@ -30,7 +30,7 @@ NoneOf b xs = NoneIn (_≡_ b) xs
 pub none-of : (P : Type 0) (b : ℕ) (xs : List ℕ) → Passed (_≡_ b) P xs → NoneOf b xs
 none-of P b xs h = none-in (_≡_ b) P xs h
 
-pub no-elem : (b : ℕ) (xs : List ℕ) → NoneOf b xs → T (elem b xs) → ⊥
-no-elem b [] h t = t
-no-elem b (x ∷ []) h t = h .0 (eqb→eq b x t)
-no-elem b (x ∷ y ∷ ys) h t = either (eqb b x) (elem b (y ∷ ys)) (λ e. h .0 (eqb→eq b x e)) (no-elem b (y ∷ ys) (h .1)) t
+pub none-elem : (b : ℕ) (xs : List ℕ) → NoneOf b xs → T (elem b xs) → ⊥
+none-elem b [] h t = t
+none-elem b (x ∷ []) h t = h .0 (eqb→eq b x t)
+none-elem b (x ∷ y ∷ ys) h t = either (eqb b x) (elem b (y ∷ ys)) (λ e. h .0 (eqb→eq b x e)) (none-elem b (y ∷ ys) (h .1)) t

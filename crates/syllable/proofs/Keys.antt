@@ -52,7 +52,7 @@ abbrev pub inArm : List (List ℕ) → ℕ → Bool
 inArm [] k = false
 inArm (ks ∷ kss) k = elim (elem k ks) [ true ↦ true | false ↦ inArm kss k ]
 
-pub not-in : (p : ℕ) (kss : List (List ℕ)) → NoneIn (Key p) kss → T (inArm kss p) → ⊥
+not-in : (p : ℕ) (kss : List (List ℕ)) → NoneIn (Key p) kss → T (inArm kss p) → ⊥
 not-in p [] h t = t
 not-in p (ks ∷ kss) h t = go (elem p ks) refl t (not-in p kss (h .1))
   where

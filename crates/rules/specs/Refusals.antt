@@ -202,7 +202,7 @@ pub record TableRow : Type 0 where
   pub when : Bool
   pub returned : ℕ
 
-abbrev row : ℕ → Bool → ℕ → TableRow
+abbrev pub row : ℕ → Bool → ℕ → TableRow
 row n b v = record { number = n; when = b; returned = v }
 
 abbrev pub asks {ℓ} : {A : Type ℓ} → (A → Bool) → Option A → Bool

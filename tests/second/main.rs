@@ -1,13 +1,16 @@
-//! Makes drill lines or speller lines from a seed, runs a program on them, and compares every
-//! byte of its answers with what the second reading of document 01 (the modules beside this file) says; or answers
+//! Makes drill lines, speller lines or recorded drills from a seed, runs a program on them, and compares every
+//! byte of its answers with what the second reading of documents 01 and 02 (the modules beside this file) says; or answers
 //! the lines of standard input itself, with the columns of the program cards.
 //!
 //!     second drill PROGRAM LINES SEED
 //!     second keys PROGRAM LINES SEED     (the drill with --keys)
 //!     second spell PROGRAM LINES SEED
+//!     second recordings COUNT SEED PROGRAM [ARG...]     (a program that answers as tests/box/recordings.c does)
 //!     second cards < LINES
 
+mod cases;
 mod lines;
+mod recording;
 mod syllable;
 mod typing;
 
@@ -246,12 +249,11 @@ struct Compared {
     answer: fn(&[u8]) -> Vec<u8>,
 }
 
-fn compared(what: &str) -> Option<Compared> {
+fn compared(what: &str) -> Compared {
     match what {
-        "drill" => Some(Compared { arguments: &[], header: b"shown commit verdict tone place decision\n", answer: lines::drill_line }),
-        "keys" => Some(Compared { arguments: &["--keys"], header: b"shown commit verdict tone place decision letters tonekey\n", answer: lines::keys_line }),
-        "spell" => Some(Compared { arguments: &[], header: b"", answer: lines::spell_line }),
-        _ => None,
+        "drill" => Compared { arguments: &[], header: b"shown commit verdict tone place decision\n", answer: lines::drill_line },
+        "keys" => Compared { arguments: &["--keys"], header: b"shown commit verdict tone place decision letters tonekey\n", answer: lines::keys_line },
+        _ => Compared { arguments: &[], header: b"", answer: lines::spell_line },
     }
 }
 
@@ -281,61 +283,86 @@ fn answer_cards() -> std::io::Result<()> {
     std::io::stdout().write_all(&answers)
 }
 
-fn main() -> ExitCode {
-    let args: Vec<String> = std::env::args().collect();
-    if args[1..] == ["cards"] {
-        return match answer_cards() {
-            Ok(()) => ExitCode::SUCCESS,
-            Err(e) => {
-                eprintln!("second: {e}");
-                ExitCode::FAILURE
-            }
-        };
-    }
-    let usage = || {
-        eprintln!("usage: second drill|keys|spell PROGRAM LINES SEED, or: second cards < LINES");
-        ExitCode::from(2)
-    };
-    let [_, what, program, count, seed] = &args[..] else { return usage() };
-    let Some(compared) = compared(what) else { return usage() };
-    let spell = what == "spell";
-    let count: usize = count.parse().expect("a number of lines");
-    let seed: u64 = seed.parse().expect("a seed");
-    let forms = syllable::all_forms();
-    let mut dice = Dice(seed.wrapping_mul(0x9E37_79B9_7F4A_7C15) | 1);
-    let lines: Vec<Vec<u8>> = written_lines(spell).into_iter().chain(std::iter::repeat_with(|| line(&mut dice, spell, &forms))).take(count).collect();
-    let mut input = lines.join(&b'\n');
-    input.push(b'\n');
-    let output = match answers_of(program, compared.arguments, input) {
-        Ok(output) => output,
-        Err(e) => {
-            eprintln!("second: {program}: {e}");
-            return ExitCode::FAILURE;
-        }
-    };
-    let Some(rest) = output.strip_prefix(compared.header) else {
-        eprintln!("second: the header is missing");
-        return ExitCode::FAILURE;
-    };
-    let mut answers = rest.split_inclusive(|&b| b == b'\n');
+/// The program's answers, a line each, against those expected; the first ten that differ are shown. How many differ, and how many there are too many.
+fn compare(asked: impl Iterator<Item = (Vec<u8>, Vec<u8>)>, answers: &[u8]) -> (usize, usize) {
+    let mut answers = answers.split_inclusive(|&b| b == b'\n');
     let mut wrong = 0;
-    for line in &lines {
-        let mut expected = (compared.answer)(line);
+    for (line, mut expected) in asked {
         expected.push(b'\n');
         let got = answers.next().unwrap_or(b"");
         if got != expected {
             wrong += 1;
             if wrong <= 10 {
                 let show = |b: &[u8]| String::from_utf8_lossy(b).trim_end().to_string();
-                eprintln!("second: {:?}: expected {:?}, got {:?}", show(line), show(&expected), show(got));
+                eprintln!("second: {:?}: expected {:?}, got {:?}", show(&line), show(&expected), show(got));
             }
         }
     }
-    let more = answers.count();
+    (wrong, answers.count())
+}
+
+fn dice_of(seed: &str) -> Dice {
+    let seed: u64 = seed.parse().expect("a seed");
+    Dice(seed.wrapping_mul(0x9E37_79B9_7F4A_7C15) | 1)
+}
+
+fn compare_lines(what: &str, program: &str, count: &str, seed: &str) -> Result<(), String> {
+    let compared = compared(what);
+    let spell = what == "spell";
+    let count: usize = count.parse().expect("a number of lines");
+    let forms = syllable::all_forms();
+    let mut dice = dice_of(seed);
+    let lines: Vec<Vec<u8>> = written_lines(spell).into_iter().chain(std::iter::repeat_with(|| line(&mut dice, spell, &forms))).take(count).collect();
+    let mut input = lines.join(&b'\n');
+    input.push(b'\n');
+    let output = answers_of(program, compared.arguments, input).map_err(|e| format!("{program}: {e}"))?;
+    let answers = output.strip_prefix(compared.header).ok_or("the header is missing")?;
+    let (wrong, more) = compare(lines.iter().map(|line| (line.clone(), (compared.answer)(line))), answers);
     if wrong + more != 0 {
-        eprintln!("second: {wrong} of {count} {what} lines differ, {more} answers too many (seed {seed})");
-        return ExitCode::FAILURE;
+        return Err(format!("{wrong} of {count} {what} lines differ, {more} answers too many (seed {seed})"));
     }
     println!("second: {count} {what} lines, every byte of the answers as expected (seed {seed})");
-    ExitCode::SUCCESS
+    Ok(())
+}
+
+fn compare_recordings(count: &str, seed: &str, program: &str, arguments: &[&str]) -> Result<(), String> {
+    let count: usize = count.parse().expect("a number of recordings");
+    for (recording, should, is) in cases::vectors() {
+        if is != should {
+            return Err(format!("the recording {recording:02x?} of tests/vectors: expected {should:?}, the second reading gives {is:?}"));
+        }
+    }
+    let cases = cases::cases(&mut dice_of(seed), count, &syllable::all_forms());
+    if let Some(case) = cases.iter().find(|case| !case.goes_back()) {
+        return Err(format!("not the same there and back: {}", case.line()));
+    }
+    let input: String = cases.iter().map(|case| case.line() + "\n").collect();
+    let answers = answers_of(program, arguments, input.into_bytes()).map_err(|e| format!("{program}: {e}"))?;
+    let (wrong, more) = compare(cases.iter().map(|case| (case.line().into_bytes(), case.answer().into_bytes())), &answers);
+    if wrong + more != 0 {
+        return Err(format!("{wrong} of {} cases of {count} recordings differ, {more} answers too many (seed {seed})", cases.len()));
+    }
+    println!("second: {} cases of {count} recordings, every byte of the answers as expected (seed {seed})", cases.len());
+    Ok(())
+}
+
+fn main() -> ExitCode {
+    let args: Vec<String> = std::env::args().skip(1).collect();
+    let args: Vec<&str> = args.iter().map(String::as_str).collect();
+    let done = match args[..] {
+        ["cards"] => answer_cards().map_err(|e| e.to_string()),
+        ["recordings", count, seed, program, ref arguments @ ..] => compare_recordings(count, seed, program, arguments),
+        [what @ ("drill" | "keys" | "spell"), program, count, seed] => compare_lines(what, program, count, seed),
+        _ => {
+            eprintln!("usage: second drill|keys|spell PROGRAM LINES SEED, or: second recordings COUNT SEED PROGRAM [ARG...], or: second cards < LINES");
+            return ExitCode::from(2);
+        }
+    };
+    match done {
+        Ok(()) => ExitCode::SUCCESS,
+        Err(e) => {
+            eprintln!("second: {e}");
+            ExitCode::FAILURE
+        }
+    }
 }

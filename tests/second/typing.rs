@@ -194,12 +194,15 @@ impl Word {
     }
 }
 
+pub fn allowed(mode: Mode, key: u8) -> bool {
+    key.is_ascii_alphabetic() || (mode == Mode::Vni && key.is_ascii_digit())
+}
+
 pub fn type_all(mode: Mode, keys: &[u8]) -> Result<Word, Refused> {
     if keys.len() > 32 {
         return Err((2, 32));
     }
-    let allowed = |k: &u8| k.is_ascii_alphabetic() || (mode == Mode::Vni && k.is_ascii_digit());
-    if let Some(i) = keys.iter().position(|k| !allowed(k)) {
+    if let Some(i) = keys.iter().position(|&k| !allowed(mode, k)) {
         return Err((3, i));
     }
     let mut w = Word::new(mode);

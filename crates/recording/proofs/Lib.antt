@@ -1,5 +1,6 @@
 pub mod Presses
 pub mod Steps
+pub mod Openings
 pub mod Meets
 pub mod Readings
 pub mod Needed

@@ -22,6 +22,14 @@ putAt text at out = take at out ++ atFront text (drop at out)
 abbrev pub Puts : List ℕ → (out after : List ℕ) (at next : ℕ) → Type 0
 Puts text out after at next = (next ≡ at + length text) × (after ≡ putAt text at out)
 
+-- what is left of an output when a text was copied to its part from a place on
+pub copied-there : (text out dst : List ℕ) (at : ℕ) → dst ≡ take (length text) text ++ drop (length text) (take (length out - at) (drop at out))
+    → take at out ++ (dst ++ drop (length out - at) (drop at out)) ≡ putAt text at out
+copied-there text out dst at q =
+    let whole : take (length out - at) (drop at out) ≡ drop at out = take-all (length out - at) (drop at out) (simp length-drop (omega arith)) in
+    let none : drop (length out - at) (drop at out) ≡ [] = drop-of-length-le (drop at out) {i = length out - at} (simp length-drop (omega arith)) in
+    simp (q, whole, none, take-length, append-nil)
+
 -- the groups of a number, copied to a place that has room for them
 module _ (text out : List ℕ) (at : ℕ) (g : Groups) (e : g ≡ held text) (room : at + length text ≤ length out) where
   abbrev copied : List ℕ
@@ -40,10 +48,7 @@ module _ (text out : List ℕ) (at : ℕ) (g : Groups) (e : g ≡ held text) (ro
   is-room = simp (is-text, length-take, length-drop) (omega arith)
 
   pub is-put : (n : ℕ) (dst : List ℕ) → n ≡ length copied → dst ≡ take (length copied) copied ++ drop (length copied) behind → Puts text out (take at out ++ (dst ++ drop (length out - at) (drop at out))) at (at + n)
-  is-put n dst p q =
-      let whole : behind ≡ drop at out = take-all (length out - at) (drop at out) (simp length-drop (omega arith)) in
-      let none : drop (length out - at) (drop at out) ≡ [] = drop-of-length-le (drop at out) {i = length out - at} (simp length-drop (omega arith)) in
-      (simp (p, is-text), simp (q, is-text, whole, none, take-length, append-nil))
+  is-put n dst p q = (simp (p, is-text), copied-there text out dst at (q ∙ ap (λ (l : List ℕ). take (length l) l ++ drop (length l) behind) is-text))
 
 -- another text behind it
 pub put-more : (p q out after : List ℕ) (at next : ℕ) → at + length p ≤ length out → Puts p out after at next → putAt q next after ≡ putAt (p ++ q) at out

@@ -11,7 +11,8 @@ use contract.Monad.{Fun, fact}
 use denote.Ref.{now}
 use denote.Triple.Entry.{Args, Res}
 use denote.Triple.Clauses.{AtExit}
-use Rattle.recording.specs.Recordings.{stepAt, begin as beginOf}
+use Rattle.recording.specs.Recordings.{begin as beginOf}
+use Rattle.reader.specs.Standing.{stepFrom, placeAfter}
 use Rattle.reader.specs.declared.Reader.{Reader}
 use Rattle.reader.proofs.new as new
 use Rattle.reader.proofs.begin as begin
@@ -56,7 +57,7 @@ pub moved-one : (κs : Lfts 1) (a : Args moved.signature κs) (r r′ : Res move
 moved-one κs a r r′ e e′ p p′ = same r r′ (p .0 ∙ sym (p′ .0)) (p .1 ∙ sym (p′ .1))
 
 abbrev pub NextPost : (κs : Lfts 1) → Args next.signature κs → Res next.signature κs → AtExit next.ended κs → Type 0
-NextPost κs a r e = r ≡ stepAt (now (a .0 .recording)) (a .0 .at) (a .1 .0)
+NextPost κs a r e = r ≡ stepFrom (now (a .0 .recording)) (a .0 .at) (a .1 .0)
 
 pub next-says : {M : Type 1} (𝓤 : URA M) (H : Heap 𝓤) (A : Atoms 𝓤) (mem : Memory → SProp 𝓤) (run : Routine → Fun 𝓤) (κs : Lfts 1) (a : Args next.signature κs) (r : Res next.signature κs) (e : AtExit next.ended κs)
     → next.clauses 𝓤 H A mem run κs a .ensures tt r e ≡ fact 𝓤 (NextPost κs a r e)
@@ -66,7 +67,7 @@ pub next-one : (κs : Lfts 1) (a : Args next.signature κs) (r r′ : Res next.s
 next-one κs a r r′ e e′ p p′ = p ∙ sym p′
 
 abbrev pub NextInPost : (κs : Lfts 2) → Args next-in.signature κs → Res next-in.signature κs → AtExit next-in.ended κs → Type 0
-NextInPost κs a r e = (r ≡ stepAt (now (now (a .0) .recording)) (now (a .0) .at) (a .1 .0)) × (now (e .0) .recording ≡ now (a .0) .recording) × (now (e .0) .at ≡ stepAt (now (now (a .0) .recording)) (now (a .0) .at) (a .1 .0) .at)
+NextInPost κs a r e = (r ≡ stepFrom (now (now (a .0) .recording)) (now (a .0) .at) (a .1 .0)) × (now (e .0) .recording ≡ now (a .0) .recording) × (now (e .0) .at ≡ placeAfter (now (now (a .0) .recording)) (now (a .0) .at) (a .1 .0))
 
 pub next-in-says : {M : Type 1} (𝓤 : URA M) (H : Heap 𝓤) (A : Atoms 𝓤) (mem : Memory → SProp 𝓤) (run : Routine → Fun 𝓤) (κs : Lfts 2) (a : Args next-in.signature κs) (r : Res next-in.signature κs) (e : AtExit next-in.ended κs)
     → next-in.clauses 𝓤 H A mem run κs a .ensures tt r e ≡ fact 𝓤 (NextInPost κs a r e)

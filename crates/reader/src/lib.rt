@@ -1,6 +1,7 @@
 // A reader: it holds a lent recording, and the place of the next step. Thin functions over `recording`, which works on slice and number; each is proved by a walk.
 ghost use mathlib.Core.Path.{_≡_};
-ghost use Rattle.recording.specs.Recordings.{stepAt, begin as beginOf};
+ghost use Rattle.recording.specs.Recordings.{begin as beginOf};
+ghost use Rattle.reader.specs.Standing.{stepFrom, placeAfter};
 use recording::BeginAnswer;
 use recording::Progress;
 use recording::Stepped;
@@ -36,14 +37,14 @@ pub fn moved<'a>(r: Reader<'a>, at: usize) -> Reader<'a>
 
 // What the next step meets. Refusals: 10, 2, 3, 11 with their places.
 pub fn next<'a>(r: Reader<'a>, progress: Progress) -> Stepped
-    ensures { λ s. ⌜ s ≡ stepAt (now (r .entry .recording)) (r .entry .at) progress ⌝ }
+    ensures { λ s. ⌜ s ≡ stepFrom (now (r .entry .recording)) (r .entry .at) progress ⌝ }
 {
     recording::step_at(r.recording, r.at, progress)
 }
 
 // The next step, after which the reader stands behind it; after a refused step, and at the end, it stands where it stood.
 pub fn next_in<'s, 'a>(r: &'s mut Reader<'a>, progress: Progress) -> Stepped
-    ensures { λ s. ⌜ (s ≡ stepAt (now (now (r .entry) .recording)) (now (r .entry) .at) progress) × (now (r .exit) .recording ≡ now (r .entry) .recording) × (now (r .exit) .at ≡ stepAt (now (now (r .entry) .recording)) (now (r .entry) .at) progress .at) ⌝ }
+    ensures { λ s. ⌜ (s ≡ stepFrom (now (now (r .entry) .recording)) (now (r .entry) .at) progress) × (now (r .exit) .recording ≡ now (r .entry) .recording) × (now (r .exit) .at ≡ placeAfter (now (now (r .entry) .recording)) (now (r .entry) .at) progress) ⌝ }
 {
     let t = recording::step_at(r.recording, r.at, progress);
     r.at = t.at;

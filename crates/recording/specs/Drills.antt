@@ -1,4 +1,4 @@
--- A drill, written: the bytes of its recording, and what the writer refuses.
+-- 23 Writing a drill (docs/RULES.md): the bytes of a drill, and what the writer refuses.
 use mathlib.Core.Bool.{Bool, true, false}
 use mathlib.Core.List.{List, [], _∷_, _++_, map}
 use Prim.Native.Nat.{ℕ, suc, _+_, _*_, _/_, _%_}
@@ -15,18 +15,18 @@ use Rattle.recording.specs.declared.KeyPress.{KeyPress}
 use Rattle.recording.specs.declared.Checked.{Checked}
 use Rattle.recording.specs.declared.Checked.the-variants.{Fine, Faulty}
 
--- The writer is handed each press as one number: the key, and 256 times the milliseconds.
+-- 23.1 The writer is handed each press as one number: the key, and 256 times the milliseconds.
 abbrev pub pressIn : ℕ → KeyPress
 pressIn n = press (n / 256) (n % 256)
 
 abbrev pub numberOf : KeyPress → ℕ
 numberOf x = x .key + 256 * x .milliseconds
 
--- A time that a recording can hold.
+-- 23.2 A time that a recording can hold is below 2 to the 32.
 abbrev pub shortTime : ℕ → Bool
 shortTime n = ltb (pressIn n .milliseconds) limit
 
--- The bytes: the mode, then for each press its milliseconds and its key.
+-- 23.3 The recording of a drill is its mode, and then for each press its milliseconds and its key, each as a number.
 abbrev pub pressBytes : KeyPress → List ℕ
 pressBytes x = written (x .milliseconds) ++ written (x .key)
 
@@ -37,7 +37,7 @@ pressesBytes (x ∷ xs) = pressBytes x ++ pressesBytes xs
 abbrev pub drillBytes : ℕ → List KeyPress → List ℕ
 drillBytes mode xs = written mode ++ pressesBytes xs
 
--- The first faulty press, by its place among the presses: 2, 3 or 11.
+-- 23.4 The first faulty press is refused, 2, 3 or 11, with its place among the presses, from 0.
 abbrev pub unless : Checked → Checked → Checked
 unless Fine later = later
 unless (Faulty r) later = Faulty r
@@ -46,7 +46,8 @@ abbrev pub checkedFrom : Progress → ℕ → List KeyPress → Checked
 checkedFrom p i [] = Fine
 checkedFrom p i (x ∷ xs) = unless (checked p x i i) (checkedFrom (onward p x) (suc i) xs)
 
--- The writer: 1 with 0, then the first faulty press, then 4 with the bytes needed. Refused, the output is as it was.
+-- 23.5 The writer refuses 1 with 0, then the first faulty press, then 4 with the bytes needed. Refused, the output is
+-- as it was.
 abbrev pub refusedWriting : Refusal → List ℕ → Written
 refusedWriting r out = record { answer = Refused r; output = out }
 

@@ -1,4 +1,4 @@
--- A recording, read: the mode, then for each key the milliseconds since the last key and the key. One step reads both.
+-- 22 Reading a recording (docs/RULES.md): one step, the mode, and the whole reading.
 use mathlib.Core.Bool.{Bool, true, false, not, _&&_, _||_}
 use mathlib.Core.List.{List, [], _∷_}
 use mathlib.Core.Option.{Option, none, some}
@@ -23,18 +23,20 @@ use Rattle.recording.specs.declared.BeginAnswer.the-variants.{Refused as
 use Rattle.recording.specs.declared.Checked.{Checked}
 use Rattle.recording.specs.declared.Checked.the-variants.{Fine, Faulty}
 
--- Key 32, the space, ends a word.
+-- 22.1 A recording holds the mode, and then for each press of a key the milliseconds since the last press and the
+-- key, each as a number. Key 32, the space, ends a word.
 abbrev pub space : ℕ
 space = 32
 
 abbrev pub isSpace : ℕ → Bool
 isSpace key = eqb key space
 
--- A press of a key, that many milliseconds after the last.
+-- 22.2 A press is a key, so many milliseconds after the last one.
 abbrev pub press : (milliseconds key : ℕ) → KeyPress
 press t k = record { milliseconds = t; key = k }
 
--- How far a drill has come: its mode, the keys of the word that has begun, and the milliseconds so far.
+-- 22.3 How far a drill has come is its mode, the number of keys of the word that has begun, and the milliseconds so
+-- far. With a press more the word has one key more, or after a space none, and its milliseconds are added.
 abbrev pub noneYet : ℕ → Progress
 noneYet mode = record { mode = mode; «in_word» = 0; milliseconds = 0 }
 
@@ -45,8 +47,9 @@ inWord false n = suc n
 abbrev pub onward : Progress → KeyPress → Progress
 onward p x = record { mode = p .mode; «in_word» = inWord (isSpace (x .key)) (p .«in_word»); milliseconds = p .milliseconds + x .milliseconds }
 
--- What a press of a key can be refused for, the key's place and the time's given: 2, a 33rd key in a word; 3, a key that is
--- no space and not allowed in the mode; 11, milliseconds that are together over 2 to the 32 less 1.
+-- 22.4 A press is refused by the first of three rows that holds: 2, where the word has 32 keys already and the key is
+-- no space; 3, where the key is neither a space nor a key of the mode; 11, where all milliseconds together are over 2
+-- to the 32 less 1.
 abbrev pub wordFull : Progress → ℕ → Bool
 wordFull p key = not (isSpace key) && leb mostKeys (p .«in_word»)
 
@@ -69,15 +72,17 @@ checkedOf (some r) = Faulty r
 unfoldable pub checked : Progress → KeyPress → (keyAt timeAt : ℕ) → Checked
 checked p x keyAt timeAt = checkedOf (firstRow (pressRows p x keyAt timeAt))
 
--- One step, from the bytes at a place on: at their end there is none; else a time stands there, and a key number behind it.
--- 10 is asked of the time, then of the key number, each at its own place; then 2 and 3 at the key number's place, and 11 at
--- the time's. After a refused step, and at the end, place and progress are as they were.
+-- 22.6 At the end of the recording, and past it, a step meets the end. After a refused step, and at the end, place
+-- and progress are as they were.
 abbrev pub staying : Press → ℕ → Progress → Stepped
 staying x at p = record { press = x; at = at; progress = p }
 
 abbrev pub refusedStep : ℕ → (place at : ℕ) → Progress → Stepped
 refusedStep n place at p = staying (PressRefused (refusedFor n place)) at p
 
+-- 22.5 One step reads a time and the key number behind it. 10 is asked of the time and then of the key number, and
+-- each returns its own place; then 2 and 3, which return the key number's place, and last 11, which returns the
+-- time's.
 abbrev pub pressIf : Checked → KeyPress → (next at : ℕ) → Progress → Stepped
 pressIf Fine x next at p = record { press = Pressed x; at = next; progress = onward p x }
 pressIf (Faulty r) x next at p = staying (PressRefused r) at p
@@ -90,6 +95,7 @@ abbrev pub timeRead : Option Number → List ℕ → ℕ → Progress → Steppe
 timeRead none bs at p = refusedStep 10 at at p
 timeRead (some time) bs at p = keyRead time (number (drop (time .groups) bs)) at p
 
+-- 22.6 At the end of the recording, and past it, a step meets the end.
 abbrev pub stepFrom : List ℕ → ℕ → Progress → Stepped
 stepFrom [] at p = staying End at p
 stepFrom (b ∷ bs) at p = timeRead (number (b ∷ bs)) (b ∷ bs) at p
@@ -97,7 +103,7 @@ stepFrom (b ∷ bs) at p = timeRead (number (b ∷ bs)) (b ∷ bs) at p
 unfoldable pub stepAt : List ℕ → ℕ → Progress → Stepped
 stepAt s at p = stepFrom (drop at s) at p
 
--- The mode stands in front of all steps: 10 where no number does, 1 where it is neither 0 nor 1, both at place 0.
+-- 22.7 The mode stands in front: 10 where no number does, 1 where it is neither 0 nor 1. Both return place 0.
 abbrev pub modeIf : Bool → Number → BeginAnswer
 modeIf true mode = BeginRefused (refusedFor 1 0)
 modeIf false mode = Begins (record { at = mode .groups; progress = noneYet (mode .value) })
@@ -109,7 +115,8 @@ modeRead (some mode) = modeIf (wrongMode (mode .value)) mode
 unfoldable pub begin : List ℕ → BeginAnswer
 begin s = modeRead (number s)
 
--- The whole reading: the drill, or the first refusal. A step takes two bytes or more, so there are no more steps than bytes.
+-- 22.8 The whole reading goes from step to step. It is the drill, or the refusal of the first step that is refused. A
+-- step takes two bytes or more, so there are no more steps than bytes.
 pub data Reading : Type 0 where
   broken : Refusal → Reading
   presses : List KeyPress → Reading

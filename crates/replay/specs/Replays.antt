@@ -1,4 +1,4 @@
--- A replay: the words of a recorded drill, what is committed of each, and the summary.
+-- 24 Replay (docs/RULES.md): the words, what is committed of each, the summary, and what comes back.
 use mathlib.Core.Bool.{true, false}
 use mathlib.Core.List.{List, [], _∷_, _++_}
 use mathlib.Core.Option.{Option, none, some}
@@ -26,21 +26,23 @@ use Rattle.replay.specs.declared.WordAnswer.{WordAnswer}
 use Rattle.replay.specs.declared.WordAnswer.the-variants.{Committed}
 use Rattle.replay.specs.declared.WordAnswer.the-variants.{Refused as WordRefused}
 
--- The words of a drill: the keys between its spaces, some or none, and those after the last space, if there are any.
+-- 24.1 The words of a drill are the keys between its spaces, some or none, and those after the last space, if there
+-- are any.
 abbrev pub lastWord : List ℕ → List (List ℕ)
 lastWord [] = []
 lastWord (k ∷ ks) = (k ∷ ks) ∷ []
 
--- the keys of the word that has begun, and the presses behind them
 abbrev pub wordsFrom : List ℕ → List KeyPress → List (List ℕ)
 wordsFrom ks [] = lastWord ks
 wordsFrom ks (x ∷ xs) = elim (isSpace (x .key)) [ true ↦ ks ∷ wordsFrom [] xs | false ↦ wordsFrom (ks ++ (x .key ∷ [])) xs ]
 
--- What is committed of a word, the shown text or its keys by the decision, and a newline.
+-- 24.2 Each word is typed by itself, as a list, and committed: the shown text or its keys, by the decision. A newline
+-- stands behind it.
 abbrev pub committedLine : Typed → List ℕ
 committedLine z = handedBack (decision z) (shown (z .state)) (z .keys) ++ (newline ∷ [])
 
--- What comes of words: their lines one behind the other, and the seven numbers but the milliseconds.
+-- 24.3 Of each word are counted: the word, that it was kept or restored, and its keys that acted, undid and were
+-- appended.
 pub record Tally : Type 0 where
   pub text : List ℕ
   pub words : ℕ
@@ -61,6 +63,7 @@ ifRestored Restore = 1
 abbrev pub ofWord : Typed → Tally
 ofWord z = record { text = committedLine z; words = 1; kept = ifKept (decision z); restored = ifRestored (decision z); acted = z .acted; undone = z .undone; appended = z .appended }
 
+-- 24.4 Of several words the lines stand one behind the other, and the numbers are added.
 abbrev pub nothing : Tally
 nothing = record { text = []; words = 0; kept = 0; restored = 0; acted = 0; undone = 0; appended = 0 }
 
@@ -76,21 +79,22 @@ together t u =
       appended = t .appended + u .appended;
     }
 
--- each word typed by itself, from a new word
 abbrev pub ofWords : ℕ → List (List ℕ) → Tally
 ofWords mode [] = nothing
 ofWords mode (ks ∷ kss) = together (ofWord (typed mode ks)) (ofWords mode kss)
 
--- The milliseconds of all presses, those of spaces too.
+-- 24.5 The milliseconds of a drill are those of all presses, those of spaces too.
 abbrev pub milliseconds : List KeyPress → ℕ
 milliseconds [] = 0
 milliseconds (x ∷ xs) = x .milliseconds + milliseconds xs
 
+-- 24.6 The summary is seven numbers: words, kept, restored, acted, undone, appended, milliseconds.
 abbrev pub summary : Tally → ℕ → Summary
 summary t ms = record { words = t .words; kept = t .kept; restored = t .restored; acted = t .acted; undone = t .undone; appended = t .appended; milliseconds = ms }
 
--- What comes back of a replay. The lines stand at the front of the output, or it is too short: 4 with the bytes needed, after
--- all that the recording itself is refused for. Refused, the output is as it was, and the summary is all zeros.
+-- 24.7 Replay gives the lines at the front of the output, and the summary. A recording that cannot be read is refused
+-- first, and then 4 with the bytes needed, where the output is too short. Refused, the output is as it was, and the
+-- summary is all zeros.
 pub record Replayed : Type 0 where
   pub result : ReplayAnswer
   pub output : List ℕ
@@ -115,7 +119,8 @@ ofRecorded (drill mode xs) out = ofDrill mode xs out
 unfoldable pub replayed : List ℕ → List ℕ → Replayed
 replayed s out = ofRecorded (recorded s) out
 
--- One word by itself, into a line that has room for any: what its keys make of it. Refusals: 1, 2 and 3, as for typing a list.
+-- 24.8 One word by itself gives its line, the decision and the three counts. It is refused as a list is that is
+-- typed.
 pub record WordReplayed : Type 0 where
   pub answer : WordAnswer
   pub line : List ℕ

@@ -52,6 +52,20 @@ use Rattle.felcantuzza.proofs.fz_commit as fz-commit
 use Rattle.felcantuzza.proofs.fz_commit.Reads as fz-commit-reads
 use Rattle.felcantuzza.proofs.fz_spell as fz-spell
 use Rattle.felcantuzza.proofs.fz_spell.Reads as fz-spell-reads
+use Rattle.groups.proofs.number_at as number-at
+use Rattle.groups.proofs.number_at.Reads as number-at-reads
+use Rattle.groups.proofs.written as written
+use Rattle.groups.proofs.written.Reads as written-reads
+use Rattle.recording.proofs.begin as begin
+use Rattle.recording.proofs.begin.Reads as begin-reads
+use Rattle.recording.proofs.step_at as step-at
+use Rattle.recording.proofs.step_at.Reads as step-at-reads
+use Rattle.recording.proofs.write as write
+use Rattle.recording.proofs.write.Reads as write-reads
+use Rattle.replay.proofs.replay as replay
+use Rattle.replay.proofs.replay.Reads as replay-reads
+use Rattle.reader.proofs.next_in as next-in
+use Rattle.reader.proofs.One.{NextInPost, next-in-says}
 
 module _ {M : Type 1} (𝓤 : URA M) (H : Heap 𝓤) (A : Atoms 𝓤) (mem : Memory → SProp 𝓤) (run : Routine → Fun 𝓤) where
   pub step-clause : (κs : Lfts 0) (a : Args step.signature κs) (r : Res step.signature κs) (e : AtExit step.ended κs) → step.clauses 𝓤 H A mem run κs a .ensures tt r e ≡ fact 𝓤 (step-reads.Post κs a r e)
@@ -116,3 +130,24 @@ module _ {M : Type 1} (𝓤 : URA M) (H : Heap 𝓤) (A : Atoms 𝓤) (mem : Mem
 
   pub fz-type-and-show-clause : (κs : Lfts 4) (a : Args fz-type-and-show.signature κs) (r : Res fz-type-and-show.signature κs) (e : AtExit fz-type-and-show.ended κs) → fz-type-and-show.clauses 𝓤 H A mem run κs a .ensures tt r e ≡ fact 𝓤 (fz-type-and-show-reads.Post κs a r e)
   fz-type-and-show-clause κs a r e = refl
+
+  pub number-at-clause : (κs : Lfts 1) (a : Args number-at.signature κs) (r : Res number-at.signature κs) (e : AtExit number-at.ended κs) → number-at.clauses 𝓤 H A mem run κs a .ensures tt r e ≡ fact 𝓤 (number-at-reads.Post κs a r e)
+  number-at-clause κs a r e = refl
+
+  pub written-clause : (κs : Lfts 0) (a : Args written.signature κs) (r : Res written.signature κs) (e : AtExit written.ended κs) → written.clauses 𝓤 H A mem run κs a .ensures tt r e ≡ fact 𝓤 (written-reads.Post κs a r e)
+  written-clause κs a r e = refl
+
+  pub begin-clause : (κs : Lfts 1) (a : Args begin.signature κs) (r : Res begin.signature κs) (e : AtExit begin.ended κs) → begin.clauses 𝓤 H A mem run κs a .ensures tt r e ≡ fact 𝓤 (begin-reads.Post κs a r e)
+  begin-clause κs a r e = refl
+
+  pub step-at-clause : (κs : Lfts 1) (a : Args step-at.signature κs) (r : Res step-at.signature κs) (e : AtExit step-at.ended κs) → step-at.clauses 𝓤 H A mem run κs a .ensures tt r e ≡ fact 𝓤 (step-at-reads.Post κs a r e)
+  step-at-clause κs a r e = refl
+
+  pub write-clause : (κs : Lfts 2) (a : Args write.signature κs) (r : Res write.signature κs) (e : AtExit write.ended κs) → write.clauses 𝓤 H A mem run κs a .ensures tt r e ≡ fact 𝓤 (write-reads.Post κs a r e)
+  write-clause κs a r e = refl
+
+  pub replay-clause : (κs : Lfts 2) (a : Args replay.signature κs) (r : Res replay.signature κs) (e : AtExit replay.ended κs) → replay.clauses 𝓤 H A mem run κs a .ensures tt r e ≡ fact 𝓤 (replay-reads.Post κs a r e)
+  replay-clause κs a r e = refl
+
+  pub next-in-clause : (κs : Lfts 2) (a : Args next-in.signature κs) (r : Res next-in.signature κs) (e : AtExit next-in.ended κs) → next-in.clauses 𝓤 H A mem run κs a .ensures tt r e ≡ fact 𝓤 (NextInPost κs a r e)
+  next-in-clause κs a r e = next-in-says 𝓤 H A mem run κs a r e

@@ -29,7 +29,7 @@ use Rattle.lines.specs.Programs.{lineAnswer}
 use Rattle.session.specs.declared.Session.{Session}
 use Rattle.promises.specs.Contracts.{CommitAllows}
 use Rattle.promises.specs.Exactly.{Exactly}
-use Rattle.promises.specs.Demands.{Demand1, Demand2, Tight, Possible, Demands}
+use Rattle.promises.specs.Demands.{Demand1, Demand2, Tight, Possible, Recordings, Demands}
 use Rattle.promises.proofs.AsDefined.{started, stepped, typed-as, shown-answer, shown-output, placed, judged, decided, handed-back, asked, spelled-answer, spelled-output, line-answer, line-output, key-answer, key-session}
 use Rattle.promises.proofs.Box.{box-answers, box-tight, holds, box-possible}
 use Rattle.promises.proofs.EachKey.{every-prefix, after-each-key, after-the-list, at-each-key}
@@ -37,6 +37,8 @@ use Rattle.promises.proofs.RoundTrip.{spelled-back, lists-differ, only-
 use Rattle.promises.proofs.TwoOrders.{first-half}
 use Rattle.promises.proofs.EachSyllable.{second-half}
 use Rattle.promises.proofs.Committed.{granted, kept-or-keys}
+use Rattle.promises.proofs.Recorded.{numbers-back, bytes-back, stands-still, every-recording, write-read, read-write, recorded-tight, recorded-possible}
+use Rattle.promises.proofs.Replayed.{every-drill-typed, replay-is-typing, summary-adds-up, replay-too-short, replay-refuses}
 
 -- what came back is a definition over the refusal of the call, and says that refusal in numbers
 module _ {R : Type 0} (c : Call) (came-back : R) (over : Option Refusal → R) (e : came-back ≡ over (refusal c)) (says : R → Says)
@@ -242,6 +244,24 @@ possible =
       in-the-box = box-possible;
     }
 
+recordings : Recordings
+recordings =
+    record {
+      numbers-back = numbers-back;
+      bytes-back = bytes-back;
+      stands-still = stands-still;
+      every-recording = every-recording;
+      write-read = write-read;
+      read-write = read-write;
+      every-drill-typed = every-drill-typed possible;
+      replay-is-typing = replay-is-typing;
+      summary-adds-up = summary-adds-up;
+      replay-too-short = replay-too-short;
+      replay-refuses = replay-refuses;
+      tight = recorded-tight;
+      possible = recorded-possible;
+    }
+
 pub demands : Demands
 demands =
     record {
@@ -250,4 +270,5 @@ demands =
       demand-3 = record { two-orders = first-half; each-syllable = second-half };
       tight = tight;
       possible = possible;
+      recordings = recordings;
     }

@@ -6,6 +6,8 @@ pub mod EachKey
 pub mod EachSyllable
 pub mod RoundTrip
 pub mod Committed
+pub mod Recorded
+pub mod Replayed
 pub mod Pressed
 pub mod Box
 pub mod Demands

@@ -41,6 +41,7 @@ use Rattle.promises.specs.RoundTrip.{SpelledBack, OneList, OnlySyllables
 use Rattle.promises.specs.TwoOrders.{FirstHalf}
 use Rattle.promises.specs.EachSyllable.{SecondHalf}
 use Rattle.promises.specs.Committed.{ShownIsGranted, KeptOrKeys}
+use Rattle.promises.specs.Recorded.{NumbersBack, BytesBack, StandsStill, EveryRecording, WriteRead, ReadWrite, EveryDrillTyped, ReplayIsTyping, ReplayTooShort, ReplayRefuses, SummaryAddsUp, RecordedTight, RecordedPossible}
 
 -- Demand 1. Any bytes, any mode number, any record: an answer, or a numbered refusal. A refused call changes no buffer and no record, and returns exactly what the refusal table says.
 pub record Demand1 : Type 0 where
@@ -136,9 +137,27 @@ pub record Possible : Type 0 where
   pub in-session : (before : Session) (k : ℕ) → (r : StepAnswer) × (after : Session) × KeyAllows before k r after
   pub in-the-box : BoxPossible
 
+-- Recorded drills, of request W-204. A recording is read, or refused with the place; what is written is read and what is read is written, both ways the same.
+-- A replay gives the words that typing the keys between the spaces gives, with a summary that adds up, or it is refused and writes nothing.
+pub record Recordings : Type 0 where
+  pub numbers-back : NumbersBack
+  pub bytes-back : BytesBack
+  pub stands-still : StandsStill
+  pub every-recording : EveryRecording
+  pub write-read : WriteRead
+  pub read-write : ReadWrite
+  pub every-drill-typed : EveryDrillTyped
+  pub replay-is-typing : ReplayIsTyping
+  pub summary-adds-up : SummaryAddsUp
+  pub replay-too-short : ReplayTooShort
+  pub replay-refuses : ReplayRefuses
+  pub tight : RecordedTight
+  pub possible : RecordedPossible
+
 pub record Demands : Type 0 where
   pub demand-1 : Demand1
   pub demand-2 : Demand2
   pub demand-3 : Demand3
   pub tight : Tight
   pub possible : Possible
+  pub recordings : Recordings

@@ -6,5 +6,7 @@ pub mod EachKey
 pub mod EachSyllable
 pub mod RoundTrip
 pub mod Committed
+pub mod RecordedContracts
+pub mod Recorded
 pub mod Demands
 pub mod Appending

@@ -7,3 +7,5 @@ pub mod Needed
 pub mod Faults
 pub mod RoundTrips
 pub mod One
+pub mod Within
+pub mod Writers

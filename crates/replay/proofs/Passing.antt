@@ -76,11 +76,11 @@ line-put {out₀ = out₀} {out = out} {total = total} g line o h =
     put-more (g .tally .text) line out₀ out 0 (total .written) (omega (arith, h, all)) (omega (arith, so-far), g .put (omega (arith, h, all)))
 
 -- an allowed key behind allowed ones
-all-and : (f : ℕ → Bool) (ks : List ℕ) (k : ℕ) → T (all f ks) → T (f k) → T (all f (ks ++ (k ∷ [])))
+pub all-and : (f : ℕ → Bool) (ks : List ℕ) (k : ℕ) → T (all f ks) → T (f k) → T (all f (ks ++ (k ∷ [])))
 all-and f [] k t u = and-i (f k) true u tt
 all-and f (l ∷ ks) k t u = and-i (f l) (all f (ks ++ (k ∷ []))) (and-l (f l) (all f ks) t) (all-and f ks k (and-r (f l) (all f ks) t) u)
 
-is-allowed : (p : Progress) (x : KeyPress) → IsFine p x → isSpace (x .key) ≡ false → T (isKey (p .mode) (x .key))
+pub is-allowed : (p : Progress) (x : KeyPress) → IsFine p x → isSpace (x .key) ≡ false → T (isKey (p .mode) (x .key))
 is-allowed p x fine e = by (isKey (p .mode) (x .key)) (sym (ap (λ (b : Bool). not (b || isKey (p .mode) (x .key))) e) ∙ fine .allowed)
   where
     by : (k : Bool) → not (false || k) ≡ false → T k

@@ -1,0 +1,4 @@
+mod Lengths
+mod Parts
+mod Shorts
+mod Fronts

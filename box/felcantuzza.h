@@ -6,6 +6,7 @@
  * show the six bytes of one word, v i and a letter e with two marks and t. The library keeps one word as
  * 169 bytes that the caller lends to each call. Feed it one key at a time; after each key ask what to
  * show. At the end of the word ask whether to keep the shown text or to hand back the raw keys.
+ * A whole drill, its keys and how long each took, can be recorded and replayed: RECORDINGS, below.
  *
  *     unsigned char word[FZ_WORD], text[FZ_TEXT];
  *     unsigned long did, n;
@@ -16,27 +17,28 @@
  * EVERY CALL
  * - returns FZ_ANSWERED, which is 0, or else a refusal number, listed below;
  * - always writes *value: the answer's number, or the number that goes with the refusal;
- * - leaves every byte of word and output as it was where it refuses;
- * - takes any bytes, any mode and any key: nothing that stands in a buffer can break it;
+ * - leaves every byte of word and output, and every number lent for a recording, as it was where it refuses;
+ * - takes any bytes, any numbers, any mode and any key: nothing that stands in a buffer can break it;
  * - keeps nothing between calls, allocates nothing, and always returns.
  *
  * POINTERS
- * A buffer is a pointer and then its length in bytes. The caller sees to this much: a pointer is not null,
- * also where the length is 0; the bytes are there; and nobody else writes them during the call, or reads
- * those that it may write. Two calls may run at the same time on buffers of their own, and calls that take
- * a word as const may share it.
+ * A buffer is a pointer and then its length in bytes; presses are a pointer and then how many they are, and a
+ * summary is seven numbers. The caller sees to this much: a pointer is not null, also where the length is 0;
+ * the bytes are there; and nobody else writes them during the call, or reads those that it may write. Two calls
+ * may run at the same time on buffers of their own, and calls that take a word or a recording as const may share it.
  *
  * OVERLAP
- * What is lent to one call (word, keys, text, output, did, value) does not overlap, with one exception that
- * is said at its call: the keys and the text of fz_commit. Nothing is promised of any other two that share a
- * byte, such as a text that is spelled into its own buffer, or a value that lies inside a word.
+ * What is lent to one call (word, keys, text, output, did, presses, recording, at, in_word, milliseconds, summary,
+ * value) does not overlap, with one exception that is said at its call: the keys and the text of fz_commit. Nothing
+ * is promised of any other two that share a byte, such as a text that is spelled into its own buffer, or a value
+ * that lies inside a word.
  *
  * The archive is for x86-64 Linux. It calls the C function memcpy and nothing else. Text is UTF-8.
  */
 #ifndef FELCANTUZZA_H
 #define FELCANTUZZA_H
 
-#define FZ_VERSION "0.19"
+#define FZ_VERSION "0.20"
 
 /* Lengths in bytes. */
 #define FZ_WORD 169 /* a word */
@@ -101,7 +103,7 @@
 
 /*
  * REFUSALS, and the value that goes with each. Where several hold, the first in the order 8, 1, 2, 3, 6, 7, 5, 4 is given; of 2 the
- * one for keys comes first.
+ * one for keys comes first. What the calls for recordings refuse stands under RECORDINGS.
  */
 #define FZ_ANSWERED 0         /* no refusal */
 #define FZ_REFUSED_MODE 1     /* the mode is neither FZ_TELEX nor FZ_VNI: 0 */
@@ -150,6 +152,56 @@
 #define FZ_DID_UNDO 5    /* undid its own mark and closed the word */
 #define FZ_DID_APPEND 6  /* was added as a letter */
 
+/*
+ * RECORDINGS. A recorded drill is numbers, one behind the other: the mode; then for each key, in the order in which they were pressed,
+ * the milliseconds since the last key and the key. Key 32, the space, ends a word and is no key of it; two spaces in a row have an empty
+ * word between them; the keys after the last space, if there are any, are a word too. Each word has at most 32 keys, of the mode, and all
+ * milliseconds together, those of spaces too, are below 2 to the 32.
+ *
+ * A number stands in groups of seven bits, the low group first, one in a byte; the top bit of the byte is set where another group
+ * follows. It is below 2 to the 32 and in its shortest form: at most five groups, and no last group 0 behind others. 5 is the byte 05,
+ * 300 is AC 02, 70000 is F0 A2 04.
+ *
+ *     00 00 61 AC 02 61 05 20      (Telex: a; 300 milliseconds later a again; after 5 more a space)
+ *
+ * fz_record writes a recording and fz_replay replays one. fz_begin and fz_next read it press by press:
+ *
+ *     unsigned long at, mode, press, in_word = 0, milliseconds = 0;
+ *     if (fz_begin(recording, length, &at, &mode) == FZ_ANSWERED)
+ *         while (fz_next(recording, length, (unsigned char)mode, &at, &in_word, &milliseconds, &press) == FZ_ANSWERED && press)
+ *             ...                                                        (FZ_PRESS_TIME(press), FZ_PRESS_KEY(press))
+ */
+#define FZ_SPACE 32 /* the key that ends a word */
+
+/* A press as one number: the key, and 256 times the milliseconds since the last key. Made of the two, and taken apart: */
+#define FZ_PRESS(milliseconds, key) (256 * (unsigned long)(milliseconds) + (unsigned char)(key))
+#define FZ_PRESS_KEY(press) ((press) % 256)
+#define FZ_PRESS_TIME(press) ((press) / 256)
+
+/* The numbers of a summary. */
+#define FZ_SUMMARY 7 /* how many */
+
+/* What stands at which place of it. */
+#define FZ_WORDS 0        /* how many words */
+#define FZ_KEPT 1         /* of how many the shown text was kept */
+#define FZ_RESTORED 2     /* of how many the raw keys were handed back */
+#define FZ_ACTED 3        /* how many keys set a mark or cleared the tone */
+#define FZ_UNDONE 4       /* how many undid a mark */
+#define FZ_APPENDED 5     /* how many were added as letters */
+#define FZ_MILLISECONDS 6 /* all milliseconds together */
+
+/*
+ * What is refused here. Of a recording the first fault from its front is given, with the place in bytes, from 0, where the number begins that
+ * is refused; of presses the first fault, with the place of the press, from 0:
+ *     1 the mode is neither FZ_TELEX nor FZ_VNI: 0;
+ *     2 the 33rd key of a word;
+ *     3 a key that is neither FZ_SPACE nor one of the mode;
+ *     4 the output is too short, and nothing else is refused: the bytes needed.
+ * Of one press 10 comes first, for the milliseconds and then for the key, then 2, 3, 11.
+ */
+#define FZ_REFUSED_NUMBER 10 /* no number of the form above, or none at all, where one should begin */
+#define FZ_REFUSED_TIME 11   /* the milliseconds with which all together are 2 to the 32 or more */
+
 /* The archive has 8 bytes for a length or a value. Where unsigned long has not, this does not compile. */
 typedef char fz_unsigned_long_has_8_bytes[sizeof(unsigned long) == 8 ? 1 : -1];
 
@@ -194,6 +246,30 @@ unsigned char fz_commit(unsigned char mode, const unsigned char *keys, unsigned 
  * keys, at most FZ_LIST. Refusals: 1, 2 (FZ_TEXT), 6, 7, 4. Overlap: none.
  */
 unsigned char fz_spell(unsigned char mode, const unsigned char *text, unsigned long text_length, unsigned char *output, unsigned long output_length, unsigned long *value);
+
+/*
+ * A drill as a recording, at the front of the output, and the rest of the output as it was. Each of the count presses is made by FZ_PRESS; any number
+ * may stand there. Value: the bytes written. Refusals: 1; 2, 3, 11 with the place of the press; 4. Overlap: none.
+ */
+unsigned char fz_record(unsigned char mode, const unsigned long *presses, unsigned long count, unsigned char *output, unsigned long output_length, unsigned long *value);
+
+/* The mode in front of a recording. Written besides: *at, the place of the first press. Value: the mode. Refusals: 10, 1. Overlap: none. */
+unsigned char fz_begin(const unsigned char *recording, unsigned long recording_length, unsigned long *at, unsigned long *value);
+
+/*
+ * The press at a place of a recording. The caller lends three numbers, at first those of fz_begin, 0 and 0, and hands them in again for the next press:
+ * *at, the place; *in_word, how many keys the word that has begun has; *milliseconds, all so far. Each is moved on behind the press, and is as it was at
+ * the end and where the call refuses. Any numbers may be handed in: a place past the last byte is the end, 32 keys or more are a full word, and another
+ * mode than the two allows letters and the space. Value: the press, or 0 at the end; no press is 0. Refusals: 10, 2, 3, 11 with their places. Overlap: none.
+ */
+unsigned char fz_next(const unsigned char *recording, unsigned long recording_length, unsigned char mode, unsigned long *at, unsigned long *in_word, unsigned long *milliseconds, unsigned long *value);
+
+/*
+ * A recording replayed: each of its words typed from a new word and committed, so that the shown text or the raw keys, as fz_decision says, stand in
+ * the output, each with a newline, one behind the other; the rest of the output is as it was. Written besides: the summary. Value: the bytes
+ * written. Refusals: 10, 1, 2, 3, 11 with their places; 4. Overlap: none.
+ */
+unsigned char fz_replay(const unsigned char *recording, unsigned long recording_length, unsigned char *output, unsigned long output_length, unsigned long summary[FZ_SUMMARY], unsigned long *value);
 
 #ifdef __cplusplus
 }

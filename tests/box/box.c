@@ -1,6 +1,7 @@
 /*
  * The library as the box links it: types, numbers and macros of the header, the record byte by byte, words typed key by key, what each key did and which
- * key made which letter, every refusal, show, commit, also of keys and a text that overlap, and spelling. One line for each check that fails.
+ * key made which letter, every refusal, show, commit, also of keys and a text that overlap, spelling, and recordings written, read and replayed. One line
+ * for each check that fails.
  *
  * VERSION, what the file of that name at the repository's root says, is defined where this is compiled.
  */
@@ -19,7 +20,11 @@ static const struct {
     unsigned char (*decision)(const unsigned char *, unsigned long, unsigned long *);
     unsigned char (*commit)(unsigned char, const unsigned char *, unsigned long, const unsigned char *, unsigned long, unsigned long *);
     unsigned char (*spell)(unsigned char, const unsigned char *, unsigned long, unsigned char *, unsigned long, unsigned long *);
-} calls = {fz_start, fz_type, fz_type_and_show, fz_show, fz_verdict, fz_place, fz_decision, fz_commit, fz_spell};
+    unsigned char (*record)(unsigned char, const unsigned long *, unsigned long, unsigned char *, unsigned long, unsigned long *);
+    unsigned char (*begin)(const unsigned char *, unsigned long, unsigned long *, unsigned long *);
+    unsigned char (*next)(const unsigned char *, unsigned long, unsigned char, unsigned long *, unsigned long *, unsigned long *, unsigned long *);
+    unsigned char (*replay)(const unsigned char *, unsigned long, unsigned char *, unsigned long, unsigned long *, unsigned long *);
+} calls = {fz_start, fz_type, fz_type_and_show, fz_show, fz_verdict, fz_place, fz_decision, fz_commit, fz_spell, fz_record, fz_begin, fz_next, fz_replay};
 
 static int checks, failures;
 
@@ -327,6 +332,8 @@ static void try_names(void) {
         {"FZ_REFUSED_LETTER", FZ_REFUSED_LETTER, 6},
         {"FZ_REFUSED_SYLLABLE", FZ_REFUSED_SYLLABLE, 7},
         {"FZ_REFUSED_WORD", FZ_REFUSED_WORD, 8},
+        {"FZ_REFUSED_NUMBER", FZ_REFUSED_NUMBER, 10},
+        {"FZ_REFUSED_TIME", FZ_REFUSED_TIME, 11},
         {"FZ_VALID", FZ_VALID, 0},
         {"FZ_NUCLEUS_EMPTY", FZ_NUCLEUS_EMPTY, 1},
         {"FZ_INITIAL_UNKNOWN", FZ_INITIAL_UNKNOWN, 2},
@@ -347,13 +354,22 @@ static void try_names(void) {
         {"FZ_DID_CLEAR", FZ_DID_CLEAR, 4},
         {"FZ_DID_UNDO", FZ_DID_UNDO, 5},
         {"FZ_DID_APPEND", FZ_DID_APPEND, 6},
+        {"FZ_SPACE", FZ_SPACE, 32},
+        {"FZ_SUMMARY", FZ_SUMMARY, 7},
+        {"FZ_WORDS", FZ_WORDS, 0},
+        {"FZ_KEPT", FZ_KEPT, 1},
+        {"FZ_RESTORED", FZ_RESTORED, 2},
+        {"FZ_ACTED", FZ_ACTED, 3},
+        {"FZ_UNDONE", FZ_UNDONE, 4},
+        {"FZ_APPENDED", FZ_APPENDED, 5},
+        {"FZ_MILLISECONDS", FZ_MILLISECONDS, 6},
     };
     for (unsigned long i = 0; i < sizeof names / sizeof names[0]; i++)
         check(names[i].is == names[i].should, "its value", names[i].name);
     check(length(FZ_VERSION) == length(VERSION) && same(bytes(FZ_VERSION), bytes(VERSION), length(VERSION)), "what the file VERSION says", "FZ_VERSION");
 }
 
-/* The macros that take an outcome apart, at every kind, and those that read a letter out of a word. */
+/* The macros that take an outcome apart, at every kind, those that read a letter out of a word, and those of a press. */
 static void try_macros(void) {
     const struct {
         unsigned long did, kind, tone, shape;
@@ -372,6 +388,13 @@ static void try_macros(void) {
         check(FZ_LETTER_BASE(is) == base[i], "the small ASCII code", "FZ_LETTER_BASE");
         check(FZ_LETTER_SHAPE(is) == shape[i], "the shape", "FZ_LETTER_SHAPE");
         check(FZ_LETTER_CAPITAL(is) == capital[i], "the case", "FZ_LETTER_CAPITAL");
+    }
+    for (unsigned long i = 0; i < 4; i++) {
+        const unsigned long time[] = {0, 1, 70000, 4294967295}, press[] = {'a', 256 + 32, 256UL * 70000 + 0xFF, 256 * 4294967295 + '9'};
+        const signed char key[] = {'a', 32, -1, '9'};
+        check(FZ_PRESS(time[i], key[i]) == press[i], "the key and 256 times the milliseconds", "FZ_PRESS");
+        check(FZ_PRESS_KEY(press[i]) == (unsigned char)key[i], "the key", "FZ_PRESS_KEY");
+        check(FZ_PRESS_TIME(press[i]) == time[i], "the milliseconds", "FZ_PRESS_TIME");
     }
 }
 
@@ -522,12 +545,182 @@ static void try_not_spelled(const char *text, unsigned char number, unsigned lon
     check(fz_spell(FZ_TELEX, bytes(text), length(text), keys, FZ_LIST, &v) == number && v == value && keys[0] == '#', "the speller's refusal", text);
 }
 
+/* A drill: its presses, its recording byte by byte, and what comes of it. */
+struct drill {
+    const char *name;
+    unsigned char mode;
+    unsigned long count, presses[12], length;
+    unsigned char recording[32];
+    const char *committed;
+    unsigned long summary[7];
+};
+
+static const struct drill drills[] = {
+    {"vieejt text", FZ_TELEX, 11,
+     {FZ_PRESS(0, 'v'), FZ_PRESS(120, 'i'), FZ_PRESS(300, 'e'), FZ_PRESS(128, 'e'), FZ_PRESS(5, 'j'), FZ_PRESS(70000, 't'), FZ_PRESS(3, ' '), FZ_PRESS(1, 't'), FZ_PRESS(2, 'e'), FZ_PRESS(3, 'x'), FZ_PRESS(4, 't')},
+     27, {0, 0, 'v', 0x78, 'i', 0xAC, 2, 'e', 0x80, 1, 'e', 5, 'j', 0xF0, 0xA2, 4, 't', 3, ' ', 1, 't', 2, 'e', 3, 'x', 4, 't'},
+     "việt\ntext\n", {2, 1, 1, 3, 0, 7, 70566}},
+    {"no press", FZ_VNI, 0, {0}, 1, {1}, "", {0}},
+    {"two empty words", FZ_TELEX, 2, {FZ_PRESS(0, ' '), FZ_PRESS(0, ' ')}, 5, {0, 0, ' ', 0, ' '}, "\n\n", {2, 2}},
+    {"an undo, and a space at the end", FZ_VNI, 4, {FZ_PRESS(1, 'a'), FZ_PRESS(1, '1'), FZ_PRESS(1, '1'), FZ_PRESS(127, ' ')}, 9, {1, 1, 'a', 1, '1', 1, '1', 127, ' '}, "a1\n", {1, 1, 0, 1, 1, 1, 130}},
+    {"as long as it may take", FZ_TELEX, 2, {FZ_PRESS(4294967294, 'a'), FZ_PRESS(1, 'b')}, 9, {0, 0xFE, 0xFF, 0xFF, 0xFF, 15, 'a', 1, 'b'}, "ab\n", {1, 1, 0, 0, 0, 2, 4294967295}},
+};
+
+static int same_numbers(const unsigned long *a, const unsigned long *b, unsigned long n) {
+    for (unsigned long i = 0; i < n; i++)
+        if (a[i] != b[i])
+            return 0;
+    return 1;
+}
+
+/* A recording replayed into an output of this length: refused with the number and the value, and output and summary as they were. */
+static void try_not_replayed(const unsigned char *recording, unsigned long n, unsigned long room, unsigned char number, unsigned long value, const char *why) {
+    unsigned char output[64], blank[64];
+    unsigned long summary[7] = {1, 2, 3, 4, 5, 6, 7}, before[7] = {1, 2, 3, 4, 5, 6, 7}, v = UNWRITTEN;
+    fill(output, sizeof output, '#');
+    fill(blank, sizeof blank, '#');
+    check(fz_replay(recording, n, output, room, summary, &v) == number && v == value, "fz_replay's refusal", why);
+    check(same(output, blank, sizeof output) && same_numbers(summary, before, 7), "fz_replay leaves output and summary", why);
+}
+
+/* Presses that are not recorded. */
+static void try_not_recorded(unsigned char mode, const unsigned long *presses, unsigned long count, unsigned long room, unsigned char number, unsigned long value, const char *why) {
+    unsigned char output[64], blank[64];
+    unsigned long v = UNWRITTEN;
+    fill(output, sizeof output, '#');
+    fill(blank, sizeof blank, '#');
+    check(fz_record(mode, presses, count, output, room, &v) == number && v == value, "fz_record's refusal", why);
+    check(same(output, blank, sizeof output), "fz_record leaves the output", why);
+}
+
+/* One press read from these numbers: returned and value, and where the numbers then stand. */
+static void try_next(const unsigned char *recording, unsigned long n, unsigned char mode, const unsigned long from[3], unsigned char number, unsigned long value, const unsigned long to[3], const char *why) {
+    unsigned long at = from[0], in_word = from[1], milliseconds = from[2], v = UNWRITTEN;
+    check(fz_next(recording, n, mode, &at, &in_word, &milliseconds, &v) == number && v == value, "fz_next", why);
+    check(at == to[0] && in_word == to[1] && milliseconds == to[2], "place, keys of the word and milliseconds behind fz_next", why);
+}
+
+/* Written, read press by press, and replayed; written and replayed into just enough room, and into a byte less. */
+static void try_drill(const struct drill *d) {
+    unsigned char output[64];
+    unsigned long n = length(d->committed), v = UNWRITTEN, at = UNWRITTEN, in_word = 0, milliseconds = 0, keys = 0, time = 0, summary[8];
+    fill(output, sizeof output, '#');
+    check(fz_record(d->mode, d->presses, d->count, output, d->length, &v) == 0 && v == d->length && same(output, d->recording, v) && output[v] == '#', "the recording", d->name);
+    v = UNWRITTEN;
+    check(fz_record(d->mode, d->presses, d->count, output, sizeof output, &v) == 0 && v == d->length && output[v] == '#', "the recording into more room", d->name);
+    try_not_recorded(d->mode, d->presses, d->count, d->length - 1, 4, d->length, d->name);
+
+    v = UNWRITTEN;
+    check(fz_begin(d->recording, d->length, &at, &v) == 0 && v == d->mode && at == 1, "the mode", d->name);
+    for (unsigned long i = 0; i < d->count; i++) {
+        const unsigned long press = d->presses[i], before = at;
+        keys = press % 256 == 32 ? 0 : keys + 1;
+        time += press / 256;
+        v = UNWRITTEN;
+        check(fz_next(d->recording, d->length, d->mode, &at, &in_word, &milliseconds, &v) == 0 && v == press && at > before + 1, "a press", d->name);
+        check(in_word == keys && milliseconds == time, "keys of the word and milliseconds behind a press", d->name);
+    }
+    check(at == d->length, "the place behind the last press", d->name);
+    try_next(d->recording, d->length, d->mode, (const unsigned long[]){at, keys, time}, 0, 0, (const unsigned long[]){at, keys, time}, d->name);
+
+    fill(output, sizeof output, '#');
+    summary[7] = v = UNWRITTEN;
+    check(fz_replay(d->recording, d->length, output, n, summary, &v) == 0 && v == n && same(output, bytes(d->committed), n) && output[n] == '#', "the committed words", d->name);
+    check(same_numbers(summary, d->summary, 7) && summary[7] == UNWRITTEN, "the summary", d->name);
+    if (n > 0)
+        try_not_replayed(d->recording, d->length, n - 1, 4, n, d->name);
+}
+
+/* A recording that is refused, by fz_replay and by the calls that read it press by press: the same number and place, and every lent number as it was. */
+static void try_faulty(const char *recording, unsigned long n, unsigned char number, unsigned long place, const char *why) {
+    unsigned long at = UNWRITTEN, in_word = 0, milliseconds = 0, v = UNWRITTEN, before[3];
+    unsigned char refused = fz_begin(bytes(recording), n, &at, &v);
+    const unsigned char mode = (unsigned char)v;
+    try_not_replayed(bytes(recording), n, 64, number, place, why);
+    try_not_replayed(bytes(recording), n, 0, number, place, why);
+    if (refused) {
+        check(refused == number && v == place && at == UNWRITTEN, "fz_begin's refusal", why);
+        return;
+    }
+    do {
+        before[0] = at, before[1] = in_word, before[2] = milliseconds;
+        refused = fz_next(bytes(recording), n, mode, &at, &in_word, &milliseconds, &v);
+    } while (refused == 0 && v != 0);
+    check(refused == number && v == place, "fz_next's refusal", why);
+    check(at == before[0] && in_word == before[1] && milliseconds == before[2], "fz_next leaves its numbers where it refuses", why);
+}
+
+static void try_recordings(void) {
+    static const unsigned char steps[] = {0, 'a', 1, 32, 0, '1'};
+    unsigned char full[67] = {0};
+    unsigned long presses[34];
+    for (unsigned long i = 0; i < sizeof drills / sizeof drills[0]; i++)
+        try_drill(&drills[i]);
+
+    /* Recordings that are refused, each for one thing. */
+    try_faulty("", 0, 10, 0, "no byte");
+    try_faulty("\x80", 1, 10, 0, "a mode that is cut short");
+    try_faulty("\x81\0", 2, 10, 0, "a mode that is not in its shortest form");
+    try_faulty("\2", 1, 1, 0, "mode 2");
+    try_faulty("\x80\2", 2, 1, 0, "mode 256");
+    try_faulty("\0\1", 2, 10, 2, "a time and no key");
+    try_faulty("\0\x80\0a", 4, 10, 1, "a time that is not in its shortest form");
+    try_faulty("\0\xFF\xFF\xFF\xFF\x10" "a", 7, 10, 1, "a time of 2 to the 32 or more");
+    try_faulty("\0\x80\x80\x80\x80\x80\1a", 8, 10, 1, "a time of six groups");
+    try_faulty("\0\0a\1\xE1\0", 6, 10, 4, "a key that is not in its shortest form");
+    try_faulty("\0\0\x31", 3, 3, 2, "a digit in Telex");
+    try_faulty("\1\0\x31\0\x40", 5, 3, 4, "no key");
+    try_faulty("\0\0\xE1\1", 4, 3, 2, "key 225");
+    try_faulty("\0\0\xE1\2", 4, 3, 2, "key 353, a letter and 256");
+    try_faulty("\0\xFF\xFF\xFF\xFF\x0F" "a\1a", 9, 11, 7, "together 2 to the 32 milliseconds");
+    try_faulty("\0\xFF\xFF\xFF\xFF\x0F" "a\1 ", 9, 11, 7, "together 2 to the 32 milliseconds with a space");
+
+    /* The 33rd key of a word, at its key number; after a space it is the first of another. */
+    for (unsigned long i = 0; i < 33; i++) {
+        full[2 * i + 2] = 'b';
+        presses[i] = FZ_PRESS(0, 'b');
+    }
+    try_faulty((const char *)full, 67, 2, 66, "33 keys");
+    try_not_recorded(FZ_TELEX, presses, 33, 64, 2, 32, "33 keys");
+    full[66] = '1';
+    try_faulty((const char *)full, 67, 2, 66, "2 comes before 3");
+    full[66] = ' ';
+    try_not_replayed(full, 67, 32, 4, 33, "32 keys and a space");
+
+    /* Presses that are refused, at their places; 1 first and 4 last. */
+    presses[1] = FZ_PRESS(0, '1');
+    try_not_recorded(2, presses, 2, 0, 1, 0, "mode 2");
+    try_not_recorded(FZ_TELEX, presses, 2, 0, 3, 1, "a digit in Telex");
+    presses[0] = FZ_PRESS(4294967295, 'a');
+    presses[1] = FZ_PRESS(0, 'a');
+    presses[2] = FZ_PRESS(1, ' ');
+    try_not_recorded(FZ_VNI, presses, 3, 0, 11, 2, "together 2 to the 32 milliseconds");
+    presses[0] = 18446744073709551615UL;
+    try_not_recorded(FZ_VNI, presses, 1, 64, 3, 0, "the greatest number as a press");
+    presses[0] = FZ_PRESS(4294967296, 'a');
+    try_not_recorded(FZ_VNI, presses, 1, 64, 11, 0, "a press after 2 to the 32 milliseconds");
+
+    /* Any numbers handed to fz_next: a place at and past the end, a word of 32 keys and more, milliseconds up to the limit and over it, a mode that does not exist. */
+    for (unsigned long i = 0; i < 3; i++) {
+        const unsigned long places[] = {6, 7, 18446744073709551615UL}, keys[] = {32, 33, 18446744073709551615UL}, times[] = {4294967295, 4294967296, 18446744073709551615UL};
+        const unsigned long end[] = {places[i], keys[i], times[i]}, letter[] = {0, keys[i], 0}, space[] = {2, keys[i], 0}, late[] = {2, 0, times[i]};
+        try_next(steps, 6, FZ_VNI, end, 0, 0, end, "a place past the last byte");
+        try_next(steps, 6, FZ_VNI, letter, 2, 1, letter, "a letter in a full word");
+        try_next(steps, 6, FZ_VNI, space, 0, FZ_PRESS(1, ' '), (const unsigned long[]){4, 0, 1}, "a space behind a full word");
+        try_next(steps, 6, FZ_VNI, late, 11, 2, late, "a millisecond over the limit");
+    }
+    try_next(steps, 6, FZ_VNI, (const unsigned long[]){2, 1, 4294967294}, 0, FZ_PRESS(1, ' '), (const unsigned long[]){4, 0, 4294967295}, "milliseconds up to the limit");
+    try_next(steps, 6, FZ_VNI, (const unsigned long[]){4, 31, 7}, 0, FZ_PRESS(0, '1'), (const unsigned long[]){6, 32, 7}, "the 32nd key of a word");
+    try_next(steps, 6, 2, (const unsigned long[]){0, 0, 0}, 0, FZ_PRESS(0, 'a'), (const unsigned long[]){2, 1, 0}, "a letter in mode 2");
+    try_next(steps, 6, 2, (const unsigned long[]){4, 0, 0}, 3, 5, (const unsigned long[]){4, 0, 0}, "a digit in mode 2");
+}
+
 int main(void) {
     unsigned char word[FZ_WORD + 1], before[FZ_WORD + 1], text[FZ_TEXT], long_text[FZ_TEXT + 1];
     unsigned long v, did;
 
     try_names();
-    check(calls.start == fz_start && calls.spell == fz_spell, "the calls at their types", "the header");
+    check(calls.start == fz_start && calls.replay == fz_replay, "the calls at their types", "the header");
 
     for (unsigned long i = 0; i < sizeof records / sizeof records[0]; i++)
         try_record(&records[i]);
@@ -668,6 +861,8 @@ int main(void) {
     check(fz_spell(2, long_text, 97, text, FZ_TEXT, &v) == 1 && v == 0, "refusal 1", "fz_spell");
     v = UNWRITTEN;
     check(fz_spell(FZ_VNI, long_text, 97, text, FZ_TEXT, &v) == 2 && v == 96, "refusal 2 with 96", "fz_spell");
+
+    try_recordings();
 
     printf("box: %d checks, %d failed\n", checks, failures);
     return failures != 0;

@@ -1,7 +1,7 @@
 /*
  * How much stack each call takes. The call is run on a stack of its own, painted before; how far the paint is gone says how deep the call wrote.
- * Many words are typed, shown, committed and spelled so, and of each call the most is printed: its name, and the bytes below its caller's stack
- * pointer, the return address among them. For x86-64 alone, as the archive is.
+ * Many words are typed, shown, committed and spelled so, recorded and replayed, and of each call the most is printed: its name, and the bytes below its
+ * caller's stack pointer, the return address among them. For x86-64 alone, as the archive is.
  */
 #include "../../box/felcantuzza.h"
 
@@ -31,7 +31,7 @@ __asm__(".text\n"
         "    popq %rbp\n"
         "    retq\n");
 
-enum { START, TYPE, TYPE_AND_SHOW, SHOW, VERDICT, PLACE, DECISION, COMMIT, SPELL, CALLS };
+enum { START, TYPE, TYPE_AND_SHOW, SHOW, VERDICT, PLACE, DECISION, COMMIT, SPELL, RECORD, BEGIN, NEXT, REPLAY, CALLS };
 
 static const struct {
     const char *name;
@@ -46,6 +46,10 @@ static const struct {
     {"fz_decision", (call)fz_decision},
     {"fz_commit", (call)fz_commit},
     {"fz_spell", (call)fz_spell},
+    {"fz_record", (call)fz_record},
+    {"fz_begin", (call)fz_begin},
+    {"fz_next", (call)fz_next},
+    {"fz_replay", (call)fz_replay},
 };
 
 static unsigned long most[CALLS];
@@ -89,6 +93,36 @@ static void try_keys(unsigned char mode, const char *keys, unsigned long length)
     }
 }
 
+/* The keys and a space recorded, read press by press and replayed, into outputs of this length. */
+static void try_drill(unsigned char mode, const char *keys, unsigned long length) {
+    static unsigned long presses[64], place, in_word, milliseconds, value, summary[FZ_SUMMARY];
+    static unsigned char recording[256], output[FZ_TEXT + 1];
+    unsigned long count = 0, n;
+    for (; keys[count]; count++)
+        presses[count] = FZ_PRESS(100000 * count, keys[count]);
+    presses[count++] = FZ_PRESS(0, FZ_SPACE);
+    run(RECORD, (unsigned long[7]){mode, at(presses), count, at(recording), length, at(&value)});
+    run(RECORD, (unsigned long[7]){mode, at(presses), count, at(recording), sizeof recording, at(&value)});
+    n = value;
+    run(BEGIN, (unsigned long[7]){at(recording), n, at(&place), at(&value)});
+    for (in_word = milliseconds = 0, value = 1; value;)
+        if (run(NEXT, (unsigned long[7]){at(recording), n, mode, at(&place), at(&in_word), at(&milliseconds), at(&value)}))
+            break;
+    run(REPLAY, (unsigned long[7]){at(recording), n, at(output), length, at(summary), at(&value)});
+}
+
+/* A recording with no end of a number in it, read from its front and from its second byte: a number is followed no further than five groups. */
+static void try_endless(void) {
+    static const unsigned char recording[] = {0, 255, 255, 255, 255, 255, 255, 255};
+    static unsigned long place, in_word, milliseconds, value, summary[FZ_SUMMARY];
+    static unsigned char output[1];
+    run(BEGIN, (unsigned long[7]){at(recording + 1), 7, at(&place), at(&value)});
+    place = 1;
+    run(NEXT, (unsigned long[7]){at(recording), 8, FZ_TELEX, at(&place), at(&in_word), at(&milliseconds), at(&value)});
+    run(REPLAY, (unsigned long[7]){at(recording), 8, at(output), 1, at(summary), at(&value)});
+    run(REPLAY, (unsigned long[7]){at(recording + 1), 7, at(output), 1, at(summary), at(&value)});
+}
+
 int main(void) {
     static const struct {
         unsigned char mode;
@@ -105,7 +139,10 @@ int main(void) {
         for (unsigned i = 0; i < sizeof words / sizeof words[0]; i++) {
             try_keys(words[i].mode, words[i].keys, FZ_TEXT);
             try_keys(words[i].mode, words[i].keys, 12);
+            try_drill(words[i].mode, words[i].keys, FZ_TEXT + 1);
+            try_drill(words[i].mode, words[i].keys, 12);
         }
+        try_endless();
     }
     for (int i = 0; i < CALLS; i++)
         printf("%s %lu\n", calls[i].name, most[i]);

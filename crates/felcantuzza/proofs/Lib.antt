@@ -1,3 +1,4 @@
 pub mod Rooms
 pub mod CallAnswers
+pub mod Recorded
 pub mod One

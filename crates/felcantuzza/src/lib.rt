@@ -1,8 +1,12 @@
-// What the box links. Each call takes numbers and lent bytes alone: no struct, enum or bool crosses.
+// What the box links. Each call takes numbers, and lent bytes and numbers, alone: no struct, enum or bool crosses.
 // It returns 0 where it is answered, else the refusal's number; `value` then holds the answer's number, or the refusal's, and is always written.
-// A word's record is lent as the 169 bytes of crate `layout`; bytes that are no record are refusal 8 with 0. A refused call leaves every lent byte as it was.
+// A word's record is lent as the 169 bytes of crate `layout`; bytes that are no record are refusal 8 with 0. A refused call leaves every lent byte as it was, and every number that is lent for a recording.
 use commit::Ruling;
 use press::ShownAnswer;
+use recording::BeginAnswer;
+use recording::KeyPress;
+use recording::Press;
+use recording::Progress;
 use rules::Act;
 use rules::Decision;
 use rules::DecisionAnswer;
@@ -17,7 +21,9 @@ use rules::Word;
 use rules::WriteAnswer;
 ghost use mathlib.Core.Path.{_≡_};
 ghost use Rattle.rules.specs.AnswersInNumbers.{outcomeNumbers, placeNumbers, decisionNumber};
+ghost use Rattle.recording.specs.Drills.{numberOf};
 ghost use Rattle.felcantuzza.specs.Calls as Calls;
+ghost use Rattle.felcantuzza.specs.Recordings as Recordings;
 
 fn answered(number: usize, value: &mut usize) -> u8
     ensures { λ r. ⌜ (r ≡ 0) × (now (value .exit) ≡ number) ⌝ }
@@ -272,6 +278,99 @@ pub extern "C" fn fz_spell(mode: u8, text: &[u8], out: &mut [u8], value: &mut us
 {
     match speller::spell(mode, text, out) {
         WriteAnswer::Wrote(keys) => answered(keys, value),
+        WriteAnswer::Refused(refusal) => refused(refusal, value),
+    }
+}
+
+// A drill as a recording; each press is one number, its key and 256 times its milliseconds; the value is the bytes written. Refusals: 1; 2, 3, 11 with the press's place; 4.
+#[no_mangle]
+pub extern "C" fn fz_record(mode: u8, presses: &[u64], out: &mut [u8], value: &mut usize) -> u8
+    ensures { λ r. ⌜ (r ≡ Calls.returned (Recordings.recordDrill mode (now (presses .entry)) (now (out .entry)))) × (now (value .exit) ≡ Calls.valueBy Calls.onlyOne (Recordings.recordDrill mode (now (presses .entry)) (now (out .entry)))) × (now (out .exit) ≡ Recordings.recordOutput mode (now (presses .entry)) (now (out .entry))) ⌝ }
+{
+    match recording::write(mode, presses, out) {
+        WriteAnswer::Wrote(bytes) => answered(bytes, value),
+        WriteAnswer::Refused(refusal) => refused(refusal, value),
+    }
+}
+
+// The mode in front of a recording is the value, and `at` the place of the first press. Refusals: 10, 1, at place 0.
+#[no_mangle]
+pub extern "C" fn fz_begin(recording: &[u8], at: &mut usize, value: &mut usize) -> u8
+    ensures { λ r. ⌜ (r ≡ Calls.returned (Recordings.begin (now (recording .entry)))) × (now (value .exit) ≡ Calls.valueBy Calls.onlyOne (Recordings.begin (now (recording .entry)))) × (now (at .exit) ≡ Recordings.beginAt (now (recording .entry)) (now (at .entry))) ⌝ }
+{
+    match recording::begin(recording) {
+        BeginAnswer::Begins(begun) => {
+            *at = begun.at;
+            let progress = begun.progress;
+            answered(progress.mode as usize, value)
+        }
+        BeginAnswer::Refused(refusal) => refused(refusal, value),
+    }
+}
+
+fn press_number(x: KeyPress) -> usize
+    ensures { λ r. ⌜ r ≡ numberOf x ⌝ }
+{
+    x.key as usize + 256 * (x.milliseconds as usize)
+}
+
+// The press at a place; the value is its number, and 0 at the end. Place, keys of the word that has begun and milliseconds so far move on behind it,
+// and stay at the end and where the step is refused. Refusals: 10, 2, 3, 11 with their places.
+#[no_mangle]
+pub extern "C" fn fz_next(
+    recording: &[u8],
+    mode: u8,
+    at: &mut usize,
+    in_word: &mut usize,
+    milliseconds: &mut usize,
+    value: &mut usize,
+) -> u8
+    ensures { λ r. ⌜ (r ≡ Calls.returned (Recordings.next (now (recording .entry)) mode (now (at .entry)) (now («in_word» .entry)) (now (milliseconds .entry)))) × (now (value .exit) ≡ Calls.valueBy Calls.onlyOne (Recordings.next (now (recording .entry)) mode (now (at .entry)) (now («in_word» .entry)) (now (milliseconds .entry)))) × (now (at .exit) ≡ Recordings.nextAt (now (recording .entry)) mode (now (at .entry)) (now («in_word» .entry)) (now (milliseconds .entry))) × (now («in_word» .exit) ≡ Recordings.nextInWord (now (recording .entry)) mode (now (at .entry)) (now («in_word» .entry)) (now (milliseconds .entry))) × (now (milliseconds .exit) ≡ Recordings.nextMilliseconds (now (recording .entry)) mode (now (at .entry)) (now («in_word» .entry)) (now (milliseconds .entry))) ⌝ }
+{
+    let progress = Progress {
+        mode: mode,
+        in_word: *in_word,
+        milliseconds: *milliseconds as u64,
+    };
+    let step = recording::step_at(recording, *at, progress);
+    let onward = step.progress;
+    *at = step.at;
+    *in_word = onward.in_word;
+    *milliseconds = onward.milliseconds as usize;
+    let met = step.press;
+    match met {
+        Press::Pressed(x) => answered(press_number(x), value),
+        Press::End => answered(0, value),
+        Press::Refused(refusal) => refused(refusal, value),
+    }
+}
+
+// The words of a recording, each committed and with a newline, and the summary; the value is the bytes written. Refusals: 10, 1, 2, 3, 11 with the place; 4.
+#[no_mangle]
+pub extern "C" fn fz_replay(
+    recording: &[u8],
+    out: &mut [u8],
+    summary: &mut [usize; 7],
+    value: &mut usize,
+) -> u8
+    ensures { λ r. ⌜ (r ≡ Calls.returned (Recordings.replay (now (recording .entry)) (now (out .entry)))) × (now (value .exit) ≡ Calls.valueBy Calls.onlyOne (Recordings.replay (now (recording .entry)) (now (out .entry)))) × (now (out .exit) ≡ Recordings.replayOutput (now (recording .entry)) (now (out .entry))) × (now (summary .exit) ≡ Recordings.replaySummary (now (recording .entry)) (now (out .entry)) (now (summary .entry))) ⌝ }
+{
+    let replayed = replay::replay(recording, out);
+    let answer = replayed.answer;
+    match answer {
+        WriteAnswer::Wrote(bytes) => {
+            let all = replayed.summary;
+            *summary = [
+                all.words,
+                all.kept,
+                all.restored,
+                all.acted,
+                all.undone,
+                all.appended,
+                all.milliseconds as usize,
+            ];
+            answered(bytes, value)
+        }
         WriteAnswer::Refused(refusal) => refused(refusal, value),
     }
 }

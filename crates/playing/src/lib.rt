@@ -384,7 +384,7 @@ fn begin(out: &mut [u8; OUTPUT], block: &[u8], p: Play) -> Next {
     let answer = first_mode(block, window);
     match answer {
         BeginAnswer::Begins(b) => Next::More(at_place(p, b.at, b.progress)),
-        BeginAnswer::Refused(r) => { Next::Done(put_refused(out, p.waiting, window.start, r)) }
+        BeginAnswer::Refused(r) => Next::Done(put_refused(out, p.waiting, window.start, r)),
     }
 }
 

@@ -37,7 +37,7 @@ use Rattle.promises.proofs.RoundTrip.{spelled-back, lists-differ, only-
 use Rattle.promises.proofs.TwoOrders.{first-half}
 use Rattle.promises.proofs.EachSyllable.{second-half}
 use Rattle.promises.proofs.Committed.{granted, kept-or-keys}
-use Rattle.promises.proofs.Recorded.{numbers-back, bytes-back, stands-still, every-recording, write-read, read-write, recorded-tight, recorded-possible}
+use Rattle.promises.proofs.Recorded.{numbers-back, bytes-back, reader-steps, stands-still, every-recording, write-read, read-write, recorded-tight, recorded-possible}
 use Rattle.promises.proofs.Replayed.{every-drill-typed, replay-is-typing, summary-adds-up, replay-too-short, replay-refuses}
 
 -- what came back is a definition over the refusal of the call, and says that refusal in numbers
@@ -249,6 +249,7 @@ recordings =
     record {
       numbers-back = numbers-back;
       bytes-back = bytes-back;
+      reader-steps = reader-steps;
       stands-still = stands-still;
       every-recording = every-recording;
       write-read = write-read;

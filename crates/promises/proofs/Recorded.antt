@@ -31,7 +31,7 @@ use Rattle.recording.proofs.Writers.{wrote-read, read-wrote}
 use Rattle.reader.specs.declared.Reader.{Reader}
 use Rattle.replay.specs.Replays.{replayed}
 use Rattle.promises.specs.RecordedContracts.{BeginAllows, PressAllows}
-use Rattle.promises.specs.Recorded.{NumbersBack, BytesBack, NoPress, StandsStill, Walk, ended, pressed, Stops, refused, after-press, Reads, BrokenOff, at-the-mode, at-a-step, EveryRecording, WriteRead, ReadWrite, RecordedTight, RecordedPossible}
+use Rattle.promises.specs.Recorded.{NumbersBack, BytesBack, ReaderSteps, NoPress, StandsStill, Walk, ended, pressed, Stops, refused, after-press, Reads, BrokenOff, at-the-mode, at-a-step, EveryRecording, WriteRead, ReadWrite, RecordedTight, RecordedPossible}
 use Rattle.promises.proofs.AsDefined.{number-read, number-written, begun-as, pressed-as, recorded-answer, recorded-output, next-step, next-reader, replay-answer, replay-output}
 use Rattle.promises.proofs.Box.{holds}
 
@@ -161,6 +161,14 @@ pub read-write : ReadWrite
 read-write s m xs before after r all d room a =
     let e = read-wrote s all m xs (read-as s d) (map numberOf xs) before (presses-back (d .walk)) room in
     (recorded-answer a ∙ ap (λ (w : Written). w .answer) e, recorded-output a ∙ ap (λ (w : Written). w .output) e)
+
+-- a step of the reader is one of its recording
+pub reader-steps : ReaderSteps
+reader-steps before after p t a =
+    let s = now (before .recording) in (
+      subst (PressAllows s (before .at) p) (sym (next-step a)) (possible-press s (before .at) p),
+      next-reader a,
+    )
 
 pub recorded-tight : RecordedTight
 recorded-tight =

@@ -41,7 +41,7 @@ use Rattle.promises.specs.RoundTrip.{SpelledBack, OneList, OnlySyllables
 use Rattle.promises.specs.TwoOrders.{FirstHalf}
 use Rattle.promises.specs.EachSyllable.{SecondHalf}
 use Rattle.promises.specs.Committed.{ShownIsGranted, KeptOrKeys}
-use Rattle.promises.specs.Recorded.{NumbersBack, BytesBack, StandsStill, EveryRecording, WriteRead, ReadWrite, EveryDrillTyped, ReplayIsTyping, ReplayTooShort, ReplayRefuses, SummaryAddsUp, RecordedTight, RecordedPossible}
+use Rattle.promises.specs.Recorded.{NumbersBack, BytesBack, ReaderSteps, StandsStill, EveryRecording, WriteRead, ReadWrite, EveryDrillTyped, ReplayIsTyping, ReplayTooShort, ReplayRefuses, SummaryAddsUp, RecordedTight, RecordedPossible}
 
 -- Demand 1. Any bytes, any mode number, any record: an answer, or a numbered refusal. A refused call changes no buffer and no record, and returns exactly what the refusal table says.
 pub record Demand1 : Type 0 where
@@ -142,6 +142,7 @@ pub record Possible : Type 0 where
 pub record Recordings : Type 0 where
   pub numbers-back : NumbersBack
   pub bytes-back : BytesBack
+  pub reader-steps : ReaderSteps
   pub stands-still : StandsStill
   pub every-recording : EveryRecording
   pub write-read : WriteRead

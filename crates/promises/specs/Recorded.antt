@@ -4,6 +4,7 @@ use mathlib.Core.Bool.{true, false}
 use mathlib.Core.List.{List, [], _∷_, _++_, map}
 use mathlib.Core.Logic.{_⊎_}
 use Prim.Native.Nat.{ℕ, suc, _+_, _≤_, _<_}
+use denote.Ref.{now}
 use lib.ListN.{length, take, drop}
 use Rattle.rules.specs.TheWord.{mostBytes, atFront}
 use Rattle.rules.specs.AnswersInNumbers.{answered, writeSays}
@@ -47,6 +48,12 @@ NumbersBack =
 abbrev pub BytesBack : Type 0
 BytesBack =
     (bs : List ℕ) (at : ℕ) (n : Number) (g : Groups) → AllBytes bs → NumberAllows bs at (Read n) → WrittenAllows (n .value) g → take (n .groups) (drop at bs) ≡ take (g .count) (g .bytes)
+
+-- A step of the reader is the step of its recording from where it stands; it then stands where that step ends, over the same recording.
+abbrev pub ReaderSteps : Type 0
+ReaderSteps =
+    (before after : Reader) (p : Progress) (t : Stepped) → NextAllows before p t after
+    → PressAllows (now (before .recording)) (before .at) p t × (after ≡ record { recording = before .recording; at = t .at })
 
 -- At the end, and after a refused step, the reader stands where it stood, and the drill has come no further.
 abbrev pub NoPress : Press → Type 0

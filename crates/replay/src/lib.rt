@@ -1,16 +1,16 @@
 // A recorded drill replayed: each word typed by itself and committed, and the summary of all of them.
 ghost use mathlib.Core.Path.{_≡_};
 ghost use mathlib.Core.Bool.{false};
-ghost use mathlib.Core.List.{[], _∷_, _++_};
-ghost use Prim.Native.Nat.{_+_, _≤_, _<_};
+ghost use mathlib.Core.List.{[]};
+ghost use Prim.Native.Nat.{_≤_, _<_};
 ghost use lib.Dec.{T};
 ghost use lib.ListN.{length, take};
 ghost use Rattle.rules.specs.TheWord.{wordOf, atFront};
 ghost use Rattle.rules.specs.KeyRoles.{isKey};
 ghost use Rattle.rules.specs.Decision.{handedBack};
-ghost use Rattle.rules.specs.Drill.{newline};
 ghost use Rattle.rules.specs.Refusals.{all, isMode, outOfRange};
 ghost use Rattle.rules.specs.WhatComesBack.{typed};
+ghost use Rattle.show.specs.Filling.{roomText};
 ghost use Rattle.recording.specs.Recordings.{isSpace, begin};
 ghost use Rattle.recording.specs.declared.BeginAnswer.the-variants.{Begins};
 ghost use Rattle.replay.specs.Replays.{ifKept, ifRestored, committedLine, nothing, doneOf, wordReplayed, refusedReplay, replayed};
@@ -82,24 +82,20 @@ enum Passage {
     Broken(Refusal),
 }
 
-// A text and a newline, at the front of a line.
-fn ended_line(text: &[u8], line: &mut [u8; LINE]) -> usize
-    requires { ⌜ length (now text) < 97 ⌝ }
-    ensures { λ r. ⌜ (r ≡ length (now (text .entry) ++ (newline ∷ []))) × (now (line .exit) ≡ atFront (now (text .entry) ++ (newline ∷ [])) (now (line .entry))) ⌝ }
-{
-    let n = bytes::copy(text, line);
-    line[n] = NEWLINE;
-    n + 1
-}
-
-// What is committed, the shown text or the keys.
-fn committed_line(decision: Decision, shown: &[u8], keys: &[u8], line: &mut [u8; LINE]) -> usize
-    requires { ⌜ (length (now shown) < 97) × (length (now keys) < 97) ⌝ }
-    ensures { λ r. ⌜ (r ≡ length (handedBack decision (now (shown .entry)) (now (keys .entry)) ++ (newline ∷ []))) × (now (line .exit) ≡ atFront (handedBack decision (now (shown .entry)) (now (keys .entry)) ++ (newline ∷ [])) (now (line .entry))) ⌝ }
+// What is committed, the shown text of the letters or the keys, made at the front of the line itself: it has room for any text.
+fn committed_text(
+    decision: Decision,
+    letters: &[u16],
+    tone: u8,
+    keys: &[u8],
+    line: &mut [u8; LINE],
+) -> usize
+    requires { ⌜ length (now keys) ≤ 32 ⌝ }
+    ensures { λ r. ⌜ (r ≡ length (handedBack decision (roomText (now (letters .entry)) tone (now (line .entry))) (now (keys .entry)))) × (now (line .exit) ≡ atFront (handedBack decision (roomText (now (letters .entry)) tone (now (line .entry))) (now (keys .entry))) (now (line .entry))) × (length (now (line .entry)) ≡ 97) ⌝ }
 {
     match decision {
-        Decision::Keep => ended_line(shown, line),
-        Decision::Restore => ended_line(keys, line),
+        Decision::Keep => show::in_room(letters, tone, line),
+        Decision::Restore => bytes::copy(keys, line),
     }
 }
 
@@ -111,16 +107,15 @@ fn line_of(w: Word, line: &mut [u8; LINE]) -> WordDone
     let all = w.letters;
     let count = w.count as usize;
     let letters = &all[0..count];
-    let mut text = [0; Word::TEXT];
-    let n = show::in_room(letters, w.tone, &mut text);
     let verdict = syllable::verdict(letters, w.tone);
     let untouched = (w.acted == 0) & (w.undone == 0);
     let decision = word::decided(letters, untouched, w.closed, verdict);
     let keys = w.keys;
     let typed = w.typed as usize;
-    let bytes = committed_line(decision, &text[0..n], &keys[0..typed], line);
+    let n = committed_text(decision, letters, w.tone, &keys[0..typed], line);
+    line[n] = NEWLINE;
     WordDone {
-        bytes: bytes,
+        bytes: n + 1,
         decision: decision,
         acted: w.acted,
         undone: w.undone,

@@ -1,4 +1,4 @@
--- `playing::first_mode` meets its contract: the mode that is found in the part is that of the whole recording.
+-- `playing::blocks::first_mode` meets its contract: the mode that is found in the part is that of the whole recording.
 use mathlib.Core.Path.{sym, ap, _∙_}
 use Prim.Native.Nat.{_-_}
 use native.Mathlib.Omega.{arith}
@@ -7,8 +7,8 @@ use Rattle.recording.specs.Recordings.{begin}
 use Rattle.playing.specs.Parts.{shownIn}
 use Rattle.playing.proofs.Parts.{same-mode}
 use Rattle.playing.proofs.Shorts.{take-least}
-use Rattle.playing.proofs.first_mode.Statement.{statement}
-use Rattle.playing.proofs.first_mode.Tie as tie
+use Rattle.playing.proofs.blocks.first_mode.Statement.{statement}
+use Rattle.playing.proofs.blocks.first_mode.Tie as tie
 
 returns : tie.Need-returns
 returns c s rest part enough =

@@ -1,12 +1,12 @@
--- `playing::to_front` meets its contract: the bytes are copied out of the block, and back to its front.
+-- `playing::blocks::to_front` meets its contract: the bytes are copied out of the block, and back to its front.
 use mathlib.Core.Path.{ap}
 use Prim.Native.Nat.{_-_}
 use native.Mathlib.Omega.{arith}
 use lib.ListN.{length, take, drop, length-take, length-drop}
 use borrow.Author.Needs.{needs}
 use Rattle.playing.proofs.Fronts.{whole, moved}
-use Rattle.playing.proofs.to_front.Statement.{statement}
-use Rattle.playing.proofs.to_front.Tie as tie
+use Rattle.playing.proofs.blocks.to_front.Statement.{statement}
+use Rattle.playing.proofs.blocks.to_front.Tie as tie
 
 returns : tie.Need-returns
 returns c =

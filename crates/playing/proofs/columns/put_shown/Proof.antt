@@ -1,8 +1,8 @@
--- `playing::put_shown` is safe: the shown text lies within its buffer.
+-- `playing::columns::put_shown` is safe: the shown text lies within its buffer.
 use borrow.Author.Needs.{needs}
 use Rattle.playing.proofs.Lengths.{shown-within}
-use Rattle.playing.proofs.put_shown.Statement.{statement}
-use Rattle.playing.proofs.put_shown.Tie as tie
+use Rattle.playing.proofs.columns.put_shown.Statement.{statement}
+use Rattle.playing.proofs.columns.put_shown.Tie as tie
 
 pub put-shown-spec : {M : Type 1} → statement M
 put-shown-spec =

@@ -1,4 +1,4 @@
--- `playing::fill` meets its contract: what was not yet played stands at the front of the block, and what a read brought behind it.
+-- `playing::blocks::fill` meets its contract: what was not yet played stands at the front of the block, and what a read brought behind it.
 use mathlib.Core.Path.{_≡_, refl, ap, ap₂, _∙_}
 use Prim.Native.Nat.{ℕ, _+_, _-_, _%_, _^_, _≤_}
 use native.Mathlib.Omega.{arith}
@@ -7,8 +7,8 @@ use borrow.Author.Needs.{needs}
 use borrow.Rule.Slice.PartMut.{putMid}
 use Rattle.playing.specs.Parts.{cannot, reads}
 use Rattle.playing.proofs.Fronts.{still-there, read-within}
-use Rattle.playing.proofs.fill.Statement.{statement}
-use Rattle.playing.proofs.fill.Tie as tie
+use Rattle.playing.proofs.blocks.fill.Statement.{statement}
+use Rattle.playing.proofs.blocks.fill.Tie as tie
 
 returns-2 : tie.Need-returns-2
 returns-2 c inside within =

@@ -1,4 +1,4 @@
--- `playing::next_step` meets its contract: the step that is found in the part is the step of the whole recording.
+-- `playing::blocks::next_step` meets its contract: the step that is found in the part is the step of the whole recording.
 use mathlib.Core.Path.{sym, ap, _∙_}
 use mathlib.Core.List.{List}
 use Prim.Native.Nat.{ℕ, _-_}
@@ -8,8 +8,8 @@ use Rattle.recording.specs.Recordings.{stepAt}
 use Rattle.playing.specs.Parts.{shownIn, later}
 use Rattle.playing.proofs.Parts.{same-step}
 use Rattle.playing.proofs.Shorts.{take-least}
-use Rattle.playing.proofs.next_step.Statement.{statement}
-use Rattle.playing.proofs.next_step.Tie as tie
+use Rattle.playing.proofs.blocks.next_step.Statement.{statement}
+use Rattle.playing.proofs.blocks.next_step.Tie as tie
 
 returns : tie.Need-returns
 returns c s rest part enough =

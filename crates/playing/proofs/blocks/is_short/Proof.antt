@@ -1,8 +1,8 @@
--- `playing::is_short` meets its contract.
+-- `playing::blocks::is_short` meets its contract.
 use borrow.Author.Needs.{needs}
 use Rattle.playing.proofs.Shorts.{at-last, all-played, by-rest}
-use Rattle.playing.proofs.is_short.Statement.{statement}
-use Rattle.playing.proofs.is_short.Tie as tie
+use Rattle.playing.proofs.blocks.is_short.Statement.{statement}
+use Rattle.playing.proofs.blocks.is_short.Tie as tie
 
 pub is-short-spec : {M : Type 1} → statement M
 is-short-spec =

@@ -2,7 +2,7 @@
 use mathlib.Core.Path.{_≡_, refl, sym, ap, ap₂, _∙_}
 use mathlib.Core.Bool.{Bool, true, false}
 use mathlib.Core.List.{List, [], _∷_, _++_}
-use mathlib.Core.Option.{Option, none, some}
+use mathlib.Core.Option.{Option, some}
 use Prim.Native.Nat.{ℕ, zero, suc, _+_, _*_, _/_, _%_, _^_, _≤_, _<_}
 use native.Mathlib.Omega.{arith}
 use borrow.Author.Tests.{ltb-true, ltb-false}
@@ -45,10 +45,6 @@ as-before (more {b = b} {v = v} {w = w} {g = g} {bs = bs} h s one e below) (suc 
     let byte : b ≡ 128 + b % 128 = omega (arith, t 0) in
     ap₂ _∷_ byte (as-before s j (omega arith) (λ i. t (suc i))) ∙ ap (λ (gs : List ℕ). gs ++ drop g bs) (sym (grouped j v b w one e))
 
-small : {k v g : ℕ} {bs : List ℕ} → Stands k bs v g → v < limit
-small (last h) = omega arith
-small (more h s one e below) = below
-
 module _ (bs : List ℕ) (n : Number) (e : number bs ≡ some n) where
   here : Stands 5 bs (n .value) (n .groups)
   unfolding number
@@ -62,35 +58,20 @@ module _ (bs : List ℕ) (n : Number) (e : number bs ≡ some n) where
   unfolding written
   number-groups = in-groups here 4 (omega arith)
 
-  pub number-below : n .value < 4294967296
-  number-below = small here
-
   pub number-within : (1 ≤ n .groups) × (n .groups ≤ length bs) × (n .groups ≤ 5)
   number-within = within here
 
-pub number-none : number [] ≡ none
-unfolding number
-number-none = refl
-
--- what stands behind the groups does not matter, and nothing behind five bytes does
-stays : {k v g : ℕ} {bs : List ℕ} → Stands k bs v g → (rest : List ℕ) → Stands k (bs ++ rest) v g
-stays (last h) rest = last h
-stays (more h s one e below) rest = more h (stays s rest) one e below
-
-pub number-front : (bs rest : List ℕ) (n : Number) → number bs ≡ some n → number (bs ++ rest) ≡ some n
-unfolding number
-number-front bs rest n e = is-read (stays (stands 5 bs n e) rest)
-
+-- nothing behind five bytes matters
 same : (k : ℕ) (bs rest : List ℕ) → k ≤ length bs → numberIn k (bs ++ rest) ≡ numberIn k bs
 same zero bs rest h = refl
 same (suc k) [] rest h = absurd (omega arith)
 same (suc k) (b ∷ bs) rest h = ap (λ (o : Option Number). byTest b o (ltb b 128)) (same k bs rest (omega arith))
 
-pub number-long : (bs rest : List ℕ) → 5 ≤ length bs → number bs ≡ none → number (bs ++ rest) ≡ none
+pub number-front : (bs rest : List ℕ) → 5 ≤ length bs → number (bs ++ rest) ≡ number bs
 unfolding number
-number-long bs rest h e = same 5 bs rest h ∙ e
+number-front bs rest h = same 5 bs rest h
 
--- one group to five, and each is a byte
+-- one group to five
 some-few : (k n : ℕ) → (1 ≤ length (groupsOf k n)) × (length (groupsOf k n) ≤ suc k)
 some-few zero n = omega arith
 some-few (suc k) n = go (ltb n 128) (some-few k (n / 128))
@@ -106,19 +87,3 @@ written-some n = some-few 4 n .0
 pub written-few : (n : ℕ) → length (written n) ≤ 5
 unfolding written
 written-few n = some-few 4 n .1
-
-and-byte : (b : ℕ) (bs : List ℕ) → b < 256 → AllBytes bs → AllBytes (b ∷ bs)
-and-byte b bs h t zero = h
-and-byte b bs h t (suc i) = t i
-
-groups-bytes : (k n : ℕ) → n < 128 ^ suc k → AllBytes (groupsOf k n)
-groups-bytes zero n h = and-byte n [] (omega arith) (λ i. omega arith)
-groups-bytes (suc k) n h = go (ltb n 128) refl (groups-bytes k (n / 128) (omega arith))
-  where
-    go : (c : Bool) → ltb n 128 ≡ c → AllBytes (groupsOf k (n / 128)) → AllBytes (bySize k n c)
-    go true e t = let l = ltb-true n 128 e in and-byte n [] (omega arith) (λ i. omega arith)
-    go false e t = and-byte (128 + n % 128) (groupsOf k (n / 128)) (omega arith) t
-
-pub written-bytes : (n : ℕ) → n < 4294967296 → AllBytes (written n)
-unfolding written
-written-bytes n h = groups-bytes 4 n (omega arith)

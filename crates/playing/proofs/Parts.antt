@@ -1,20 +1,19 @@
 -- The mode in a part at the start of a recording is that of the whole recording, and a step at a place of a part is the step at that place of the whole, its places counted from the recording's start.
 use mathlib.Core.Path.{_≡_, refl, sym, ap, _∙_}
 use mathlib.Core.Bool.{Bool, true, false}
-use mathlib.Core.List.{List, [], _∷_, _++_, append-nil}
+use mathlib.Core.List.{List, [], _++_, append-nil}
 use mathlib.Core.Logic.{_⊎_, inl, inr}
 use mathlib.Core.Option.{Option, none, some}
-use Prim.Native.Nat.{ℕ, zero, suc, _+_, _≤_, _<_}
+use Prim.Native.Nat.{ℕ, _+_, _≤_, _<_}
 use native.Mathlib.Omega.{arith}
 use borrow.Author.Tests.{ltb-true, ltb-false}
 use lib.Dec.{ltb}
 use lib.ListN.{length, drop, length-append, length-drop}
 use lib.Seq.{drop-drop, drop-append-le}
-use Rattle.groups.specs.Numbers.{numberIn, number, answerOf}
+use Rattle.groups.specs.Numbers.{number, answerOf}
 use Rattle.groups.specs.declared.Number.{Number}
 use Rattle.groups.specs.declared.NumberAnswer.the-variants.{Read}
-use Rattle.groups.proofs.Stands.{byTest}
-use Rattle.groups.proofs.Reading.{few-groups}
+use Rattle.groups.proofs.BothWays.{number-within, number-front}
 use Rattle.recording.specs.Recordings.{press, onward, wordFull, notAllowed, tooLong, refusedFor, refusedStep, stepAt, modeRead, begin}
 use Rattle.recording.specs.declared.Progress.{Progress}
 use Rattle.recording.specs.declared.KeyPress.{KeyPress}
@@ -26,20 +25,6 @@ use Rattle.playing.specs.Parts.{IsPart, Enough, ten-bytes, no-more, late
 
 abbrev pressedTo : KeyPress → ℕ → Progress → Stepped
 pressedTo x next p = record { press = Pressed x; at = next; progress = onward p x }
-
--- bytes behind those that a number can have do not matter
-numbers-front : (k : ℕ) (a b : List ℕ) → k ≤ length a → numberIn k (a ++ b) ≡ numberIn k a
-numbers-front zero a b h = refl
-numbers-front (suc k) [] b h = absurd (omega arith)
-numbers-front (suc k) (x ∷ a) b h = ap (λ (o : Option Number). byTest x o (ltb x 128)) (numbers-front k a b (omega arith))
-
-number-front : (a b : List ℕ) → 5 ≤ length a → number (a ++ b) ≡ number a
-unfolding number
-number-front a b h = numbers-front 5 a b h
-
-few : (bs : List ℕ) (n : Number) → number bs ≡ some n → n .groups ≤ 5
-unfolding number
-few bs n e = few-groups 5 bs n (sym (ap answerOf e))
 
 module _ (s v rest : List ℕ) (start : ℕ) (part : IsPart s start v rest) where
   -- behind a place of the part
@@ -76,7 +61,7 @@ module _ (s v rest : List ℕ) (start : ℕ) (part : IsPart s start v rest) wher
           key-all : number (drop (start + at + t .groups) s) ≡ number (drop (at + t .groups) v)
           key-all =
               ap (λ (j : ℕ). number (drop j s)) (more-behind (t .groups)) ∙
-              same-number (at + t .groups) (ends-within v at t (sym (ap answerOf e))) (five (at + t .groups) (omega (arith, few (drop at v) t e)))
+              same-number (at + t .groups) (ends-within v at t (sym (ap answerOf e))) (five (at + t .groups) (omega (arith, number-within (drop at v) t e .2)))
 
           module _ (k : Number) (f : number (drop (at + t .groups) v) ≡ some k) where
             time-says : Read t ≡ answerOf (number (drop at v))

@@ -10,7 +10,7 @@ use lib.ListN.{length}
 use lib.Ieee.Fits.{and_l, and_r}
 use Rattle.rules.specs.Letters.{Letter, Letters, plain, horn, no_tone, among, words, one_of, named, is}
 use Rattle.rules.specs.TheWord.{State, Typed, Done, state_of, outcome_of, is_appended}
-use Rattle.rules.specs.KeyRoles.{letter_of_key, role, shaped, awaits_second_horn, asks_second_horn, takes_second_horn, horn_on_u, horn_on_u_if, place_of_u, append, undo_if, act_if, tone_goes, Edit, nothing, shape_edit, stroke_edit, edit_does, role_does, unless_closed, key_does}
+use Rattle.rules.specs.KeyRoles.{letter_of_key, role, shaped, awaits_second_horn, asks_second_horn, takes_second_horn, horn_on_u, horn_on_u_if, place_of_u, append, undo_if, act_if, tone_goes, Edit, nothing, off, change, shape_edit, stroke_edit, edit_does, role_does, unless_closed, key_does}
 use Rattle.rules.specs.Appending.{UHorned, OneCase}
 use Rattle.rules.specs.declared.Role.{Role}
 use Rattle.rules.specs.declared.Role.TheVariants.{ToneRole, ShapeRole, StrokeRole, NoRole}
@@ -102,12 +102,16 @@ module _ (s : State) (k : Letter) where
 -- a key that is appended leaves what appending leaves
 appended_edit : (e : Edit) (s : State) (k : Letter) → T (is_appended (outcome_of (edit_does e s k))) → state_of (edit_does e s k) ≡ append s k
 appended_edit nothing s k t = refl
+appended_edit (off _ _) s k t = elim t [ ]
+appended_edit (change _ _ _) s k t = elim t [ ]
 
 appended_if : (c : Bool) (a : Act) (s : State) (d : Done) → T (is_appended (outcome_of (act_if c a s d))) → state_of (act_if c a s d) ≡ state_of d
 appended_if false a s d t = refl
+appended_if true a s d t = elim t [ ]
 
 appended_unless : (c : Bool) (u : State) (d : Done) (p : State) → (T (is_appended (outcome_of d)) → state_of d ≡ p) → T (is_appended (outcome_of (undo_if c u d))) → state_of (undo_if c u d) ≡ p
 appended_unless false u d p h t = h t
+appended_unless true u d p h t = elim t [ ]
 
 pub leaves_appended : (r : Role) (s : State) (k : Letter) → T (is_appended (outcome_of (role_does r s k))) → state_of (role_does r s k) ≡ append s k
 leaves_appended (ToneRole (SetTone t)) s k h = appended_unless (eqb s.tone t) _ _ _ (appended_if (tone_goes t s.letters) _ _ _) h

@@ -47,6 +47,7 @@ or_pick false b c = refl
 -- a choice that holds: both of two tests, one of two
 pub and_if : (b c : Bool) → T (if_so b c) → T b × T c
 and_if true c t = (tt, t)
+and_if false c t = elim t [ ]
 
 pub either : {P : Type 0} (b c : Bool) → (T b → P) → (T c → P) → T (pick true b c) → P
 either true c f g t = f tt
@@ -58,6 +59,7 @@ and_so false c t u = t
 
 pub or_so : (b c : Bool) → T b → T (pick true b c)
 or_so true c t = tt
+or_so false c t = elim t [ ]
 
 pub or_rest : (b c : Bool) → T c → T (pick true b c)
 or_rest true c t = tt

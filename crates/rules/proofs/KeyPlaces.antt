@@ -117,10 +117,10 @@ further_on p NoLetter s ss = refl
 further_on p (OneLetter i) s ss = refl
 further_on p (TwoLetters i) s ss = refl
 
-reshaped_told : {keys : List ℕ} {n : ℕ} {sh : ℕ} {g : Touched} {v w : Letters} {bs ss : List ℕ} (p : ℕ) → eqb p no_key ≡ eqb sh plain → Reshaped sh g v w → AllTold keys n v bs ss → AllTold keys n w bs (shaped_on p g ss)
+reshaped_told : {keys : List ℕ} {sh n : ℕ} {g : Touched} {v w : Letters} {bs ss : List ℕ} (p : ℕ) → eqb p no_key ≡ eqb sh plain → Reshaped sh g v w → AllTold keys n v bs ss → AllTold keys n w bs (shaped_on p g ss)
 reshaped_told p e one (and_told h t r) = and_told h (record { own = t.own; below = t.below; mark = e }) r
 reshaped_told p e two (and_told h t (and_told i u r)) = and_told h (record { own = t.own; below = t.below; mark = e }) (and_told i (record { own = u.own; below = u.below; mark = e }) r)
-reshaped_told {keys} {n} p e (later {g = g} {x = x} {w = w} y) (and_told {b = b} {s = s} {bs = bs} {ss = ss} h t r) =
+reshaped_told {keys} {n = n} p e (later {g = g} {x = x} {w = w} y) (and_told {b = b} {s = s} {bs = bs} {ss = ss} h t r) =
     subst (AllTold keys n (x ∷ w) (b ∷ bs)) (further_on p g s ss) (and_told h t (reshaped_told p e y r))
 
 -- one key more, and its letter

@@ -53,9 +53,11 @@ or_weaker false false c d f g t = g t
 
 some_so : (f g : Letters → Bool) → ((z : Letters) → T (f z) → T (g z)) → (zs : List Letters) → T (some_word f zs) → T (some_word g zs)
 some_so f g h (z ∷ zs) t = or_weaker (f z) (g z) (some_word f zs) (some_word g zs) (h z) (some_so f g h zs) t
+some_so f g h [] t = elim t [ ]
 
 pub some_row_so : (f g : Row → Letters → Bool) → ((r : Row) (z : Letters) → T (f r z) → T (g r z)) → (rs : List Row) → T (some_row f rs) → T (some_row g rs)
 some_row_so f g h (r ∷ rs) t = or_weaker (some_word (f r) r.nuclei) (some_word (g r) r.nuclei) (some_row f rs) (some_row g rs) (some_so (f r) (g r) (h r) r.nuclei) (some_row_so f g h rs) t
+some_row_so f g h [] t = elim t [ ]
 
 -- one list behind another: some of both is some of the first or some of the second
 pub some_both : (f : Letters → Bool) (xs ys : List Letters) → some_word f (xs ++ ys) ≡ (some_word f xs || some_word f ys)

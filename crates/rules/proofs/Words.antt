@@ -16,6 +16,8 @@ same_bases [] [] t = refl
 same_bases (x ∷ v) (z ∷ w) t =
     let (i, s) = and_if (is x z) (same v w) t in
     ap₂ ◌∷◌ (eqb→eq x.base z.base (and_l (eqb x.base z.base) (eqb x.shape z.shape) i)) (same_bases v w s)
+same_bases [] (z ∷ w) t = elim t [ ]
+same_bases (x ∷ v) [] t = elim t [ ]
 
 abbrev every : (List ℕ → Bool) → List Letters → Bool
 every g [] = true
@@ -25,6 +27,7 @@ pub of_words : (g : List ℕ → Bool) (w : Letters) (zs : List Letters) → T (
 of_words g w (z ∷ zs) h t =
     let more = of_words g w zs (and_r (g (bases z)) (every g zs) h) in
     either (same w z) (one_of w zs) (λ s. rw (same_bases w z s) (and_l (g (bases z)) (every g zs) h)) more t
+of_words g w [] h t = elim t [ ]
 
 -- the last letter
 abbrev pub ended_by : Letter → List Letters → List Letters

@@ -6,8 +6,7 @@ use lib.Dec.{eqb}
 use borrow.Author.Rules.{rules}
 use borrow.Author.Tests.{eqb-true}
 use Rattle.rules.specs.KeyRoles.{own, is_aeo}
-use Rattle.targets.proofs.is_own.Statement.{statement}
-use Rattle.targets.proofs.is_own.Tie as tie
+use Rattle.targets.proofs.is_own.Goals as goal
 
 other : (p : Bool) → false ≡ p && false
 other true = refl
@@ -21,9 +20,5 @@ of_own : (b x : ℕ) (q : Bool) → eqb x b ≡ q → (q && is_aeo b) ≡ (is_ae
 of_own b x true e = ap is_aeo (sym (eqb-true x b e)) ∙ the_same (is_aeo x)
 of_own b x false e = other (is_aeo x)
 
-pub is_own_spec : {M : Type 1} → statement M
-is_own_spec =
-    tie.close
-    (tie.spec
-    (λ c κs. search rules)
-    (λ c. let args = c.before.args in ap (◌&&◌ (eqb args.b args.own)) c.is-aeo.ensures ∙ of_own args.own args.b (eqb args.b args.own) refl))
+pub returns : goal.returns
+returns c = let args = c.args in ap (◌&&◌ (eqb args.b args.own)) c.is_aeo.ensures ∙ of_own args.own args.b (eqb args.b args.own) refl

@@ -26,7 +26,7 @@ use Rattle.commit.specs.declared.Ruling.TheVariants.{Keep as RulingKeep, Restore
 use Rattle.output.specs.Front.{put}
 use Rattle.lines.specs.Programs.{line_answer}
 use Rattle.session.specs.declared.Session.{Session}
-use Rattle.promises.specs.Contracts.{CommitAllows}
+use Rattle.promises.specs.ContractsAllow.{CommitAllows}
 use Rattle.promises.specs.Exactly.{Exactly}
 use Rattle.promises.specs.Demands.{Demand1, Demand2, Tight, Possible, Recordings, Demands}
 use Rattle.promises.proofs.AsDefined.{started, stepped, typed_as, shown_answer, shown_output, placed, judged, decided, handed_back_law, asked, spelled_answer, spelled_output, line_answer_law, line_output, key_answer, key_session}

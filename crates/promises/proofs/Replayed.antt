@@ -38,7 +38,7 @@ use Rattle.recording.proofs.Readings.{met_press}
 use Rattle.replay.specs.Replays.{last_word, words_from, committed_line, if_kept, if_restored, of_words, milliseconds, summary, Replayed, summary_if, answered_by, refused_replay, of_recorded, replayed}
 use Rattle.replay.proofs.Passing.{all_and, is_allowed}
 use Rattle.replay.specs.declared.ReplayAnswer.{ReplayAnswer}
-use Rattle.promises.specs.Contracts.{TypeAllows, ShowAllows, CommitAllows}
+use Rattle.promises.specs.ContractsAllow.{TypeAllows, ShowAllows, CommitAllows}
 use Rattle.promises.specs.RecordedContracts.{ReplayAllows}
 use Rattle.promises.specs.EachKey.{AcceptedKeys}
 use Rattle.promises.specs.Recorded.{Walk, ended, pressed, Reads, BrokenOff, Lines, no_word, word_and_more, EveryDrillTyped, ReplayIsTyping, ReplayTooShort, ReplayRefuses, keys_in, AddsUp, SummaryAddsUp}

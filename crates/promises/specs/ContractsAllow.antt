@@ -130,7 +130,7 @@ pub record LineAllows (p : Program) (line before : List ℕ) (r : WriteAnswer) (
   pub at_exit : exit.1.1.0.now ≡ after
   pub post : answer-line-reads.Post lifetimes args r exit
 
--- a key typed into a session: the session before and after. Its entry is proved by hand, so that the kit has no text of its contract; `KeyPost` is that text.
+-- a key typed into a session: the session before and after. `KeyPost` is the text of its contract.
 pub record KeyAllows (before : Session) (k : ℕ) (r : StepAnswer) (after : Session) : Type 0 where
   pub lifetimes : Lfts 1
   pub args : Args type-key.signature lifetimes

@@ -57,17 +57,15 @@ pub point_spec : {M : Type 1} → statement M
 point_spec =
     tie.close (tie.spec
     (λ c. search rules)
-    (λ c. let s = c.before in not_a_letter s.args.letter s.args.tone (sym (too_large vni s.args.letter c.if1.true)))
-    (λ c. let s = c.before.before in no_such_tone s.args.letter s.args.tone (omega arith))
+    (λ c. not_a_letter c.args.letter c.args.tone (sym (too_large vni c.args.letter c.if-letter.true)))
+    (λ c. no_such_tone c.args.letter c.args.tone (omega arith))
     (λ c κs. omega arith)
     (λ c κs. omega arith)
     (λ c κs. c.point.ensures.1)
     returns_3
     (λ c κs. search rules)
     (λ c.
-    let l = c.before in
-    let s = l.before.before.before.before.before in
-    not_a_letter s.args.letter s.args.tone (sym l.is-letter.ensures ∙ not-true l.is-letter.result c.if4.true))
+    not_a_letter c.args.letter c.args.tone (sym c.is_letter.ensures ∙ not-true c.is_letter.result c.if-not-is_letter.true))
     returns_5
     (λ c κs. omega arith)
     returns_6

@@ -32,4 +32,11 @@ returns_3 c =
     no_three s.args.first s.args.second s.args.third f.before.follows.ensures f.follows2.ensures c.if1.false
 
 pub three_bytes_spec : {M : Type 1} → statement M
-three_bytes_spec = tie.close (tie.spec (λ c κs. search rules) (λ c κs. search rules) point_of_three_requires (λ c κs. search rules) returns returns_2 returns_3)
+three_bytes_spec = tie.close (tie.spec
+    (λ c κs. search rules)
+    (λ c κs. search rules)
+    point_of_three_requires
+    (λ c κs. search rules)
+    returns
+    returns_2
+    returns_3)

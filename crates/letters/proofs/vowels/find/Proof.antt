@@ -10,10 +10,10 @@ use Rattle.letters.proofs.Finds.{not_stroke, small_read, capital_read, goes_on, 
 use Rattle.letters.proofs.vowels.find.Statement.{statement}
 use Rattle.letters.proofs.vowels.find.Tie as tie
 
-abbrev invariant_loop : tie.invariant-loop
+abbrev invariant_loop : tie.invariant-loop-i
 invariant_loop point n points i₀ i = (i ≤ 72) × (found point ≡ found_in point i (drop i point_table))
 
-abbrev decreases_loop : tie.decreases-loop
+abbrev decreases_loop : tie.decreases-loop-i
 decreases_loop point n points i₀ i = 72 - i
 
 returns_3 : tie.Need-returns-3 invariant_loop decreases_loop
@@ -47,19 +47,17 @@ returns_5 c =
 pub find_spec : {M : Type 1} → statement M
 unfolding found point_table
 find_spec =
-    tie.close (tie.spec
-    invariant_loop
-    decreases_loop
-    (λ c. rw c.if1.true)
+    tie.close (tie.spec invariant_loop decreases_loop
+    (λ c. rw c.if-point-eq-D_STROKE_POINT.true)
     (λ c. omega arith)
-    (λ c. rw c.if2.true)
-    (λ c. (omega arith, not_stroke c.before.before.args.point c.before.if1.false c.if2.false))
+    (λ c. rw c.if-point-eq-CAPITAL_D_STROKE_POINT.true)
+    (λ c. (omega arith, not_stroke c.args.point c.if-point-eq-D_STROKE_POINT.false c.if-point-eq-CAPITAL_D_STROKE_POINT.false))
     (λ c. omega arith)
     (λ c. omega arith)
     (λ c κs. omega arith)
     (λ c. omega arith)
     returns_3
-    (λ c κs. (right_at c.before.before.loop.i (omega arith)).above)
+    (λ c κs. (right_at c.loop-i.i (omega arith)).above)
     (λ c κs. omega arith)
     (λ c. omega arith)
     (λ c. omega arith)

@@ -12,8 +12,8 @@ returns-in-367 c = ⊎_elim (λ e. rw e) (⊎_elim (λ e. rw e) (⊎_elim (λ e.
 pub returns-in_default : goal.returns-in_default
 returns-in_default c =
     let n = c.args.small in
-    let p = c.in_default.in_default_own.rest.0.1 in
-    let q = c.in_default.in_default_own.rest.1 in
+    let p = c.in_default.in_default-own.rest.0.1 in
+    let q = c.in_default.in_default-own.rest.1 in
     rw (
       ne_eqb n 609 (λ e. p (inr (inr e))),
       ne_eqb n 353 (λ e. p (inl e)),

@@ -55,4 +55,4 @@ returns-in-121 c = rw c.in-121.is
 
 pub returns-in_default : goal.returns-in_default
 unfolding vowel_row
-returns-in_default c = no_row_law c.args.small vowels c.requires (none_of (Unit {0}) c.args.small (numbers vowels) c.in_default.in_default_own.rest)
+returns-in_default c = no_row_law c.args.small vowels c.requires (none_of (Unit {0}) c.args.small (numbers vowels) c.in_default.in_default-own.rest)

@@ -10,4 +10,4 @@ pub returns : goal.returns
 returns c =
     let w = c.args.w in
     c.lent_out_of_range.ensures ∙
-    ap (λ (n : Numbers). out_of_range (word_in w.mode w.letters w.appended_by w.shaped_by w.keys w.toned_by n)) c.Numbers-of.ensures
+    ap (λ (n : Numbers). out_of_range (word_in w.mode w.letters w.appended_by w.shaped_by w.keys w.toned_by n)) c.numbers_of.ensures

@@ -20,7 +20,7 @@ loop-i-smaller c = omega arith
 pub loop-i-preserved : goal.loop-i-preserved
 loop-i-preserved c =
     let args = c.args in (
-      one_more args.typed args.count args.appended-by.now args.shaped_by.now c.loop-i.i c.loop-i.nth c.loop-i.invariant.0 c.loop-i.invariant.1 c.keys_for.ensures,
+      one_more args.typed args.count args.appended_by.now args.shaped_by.now c.loop-i.i c.loop-i.nth c.loop-i.invariant.0 c.loop-i.invariant.1 c.keys_for.ensures,
       omega (arith, c.loop-i.invariant.1),
       omega (arith, c.loop-i-test.true),
     )
@@ -29,7 +29,7 @@ pub returns : goal.returns
 returns c =
     let args = c.args in
     let end : c.loop-i.i ≡ most_keys = omega (arith, c.loop-i.invariant.2, c.loop-i-test.false) in
-    let by_long : length args.appended-by.now ≡ most_keys = search rules in
+    let by_long : length args.appended_by.now ≡ most_keys = search rules in
     let shaped_long : length args.shaped_by.now ≡ most_keys = search rules in
-    asked_all args.typed args.count args.appended-by.now args.shaped_by.now args.toned_by by_long shaped_long
-    (c.loop-i.invariant.0 ∙ ap (wrong_before args.typed args.count args.appended-by.now args.shaped_by.now) end) c.keys_for-2.ensures
+    asked_all args.typed args.count args.appended_by.now args.shaped_by.now args.toned_by by_long shaped_long
+    (c.loop-i.invariant.0 ∙ ap (wrong_before args.typed args.count args.appended_by.now args.shaped_by.now) end) c.keys_for-2.ensures

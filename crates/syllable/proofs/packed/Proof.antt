@@ -13,10 +13,10 @@ use Rattle.syllable.proofs.packed.Tie as tie
 
 module _ (c : tie.After-digit_at-3) where
   abbrev w : Letters
-  w = map letter c.args.part.now
+  w = map letter c.before.before.before.before.args.part.now
 
-  three : c.digit_at.result + 4096 * (c.digit_at-2.result + 4096 * c.digit_at-3.result) ≡ digit_at 0 w + 4096 * (digit_at 1 w + 4096 * digit_at 2 w)
-  three j = c.digit_at.ensures.0 j + 4096 * (c.digit_at-2.ensures.0 j + 4096 * c.digit_at-3.ensures.0 j)
+  three : c.before.before.digit_at.result + 4096 * (c.before.digit_at-2.result + 4096 * c.digit_at-3.result) ≡ digit_at 0 w + 4096 * (digit_at 1 w + 4096 * digit_at 2 w)
+  three j = c.before.before.digit_at.ensures.0 j + 4096 * (c.before.digit_at-2.ensures.0 j + 4096 * c.digit_at-3.ensures.0 j)
 
 pub packed_spec : {M : Type 1} → statement M
 packed_spec =

@@ -1,6 +1,6 @@
 // The drill: each line of standard input answered on standard output, behind a header.
 use lines::Program;
 
-fn main() {
-    filter::run(Program::Drill);
+fn main(rt: HostRuntime) {
+    filter::run(&rt, Program::Drill);
 }

@@ -1,6 +1,6 @@
 // The speller: each line of standard input, a shown syllable, answered on standard output by its keys.
 use lines::Program;
 
-fn main() {
-    filter::run(Program::Spell);
+fn main(rt: HostRuntime) {
+    filter::run(&rt, Program::Spell);
 }

@@ -7,7 +7,8 @@ ghost use Rattle.stream.specs.Feeding.{feeding, room_for, fed_of};
 use lines::Program;
 use rules::WriteAnswer;
 use std::io;
-use std::io::Read;
+use std::io::{ErrorKind, Read};
+use std::process::ExitCode;
 use stream::{Begun, Fed};
 
 // A block, and an output with room for all its answers: twelve bytes for each of its bytes, and an answer to the line that had begun before it.
@@ -15,15 +16,19 @@ const BLOCK: usize = 16384;
 
 const OUTPUT: usize = 512 + 12 * BLOCK;
 
+// The exit status where nobody reads the answers any more: a shell's for a program that SIGPIPE ended. The signal itself is
+// passed over before main begins, and the write fails.
+const UNREAD: u8 = 141;
+
 // What follows a read: more of the input, its end, or a failure.
-#[derive(Drop)]
+#[derive(Clone, Copy)]
 enum Next {
     More,
     Ended,
-    Failed,
+    Failed(io::Error),
 }
 
-#[derive(Drop)]
+#[derive(Clone, Copy)]
 struct Passed {
     state: Begun,
     next: Next,
@@ -44,10 +49,13 @@ fn complain(rt: &HostRuntime, program: Program, failed: &[u8]) {
     let _ = rt.stderr().write_all(failed);
 }
 
-fn written(rt: &HostRuntime, program: Program, text: &[u8]) -> bool {
-    let all = rt.stdout().write_all(text).is_ok();
-    if !all {
-        complain(rt, program, b"write\n");
+// Who reads the answers may stop: that is no fault, and nothing is said of it.
+fn written(rt: &HostRuntime, program: Program, text: &[u8]) -> io::Result<()> {
+    let all = rt.stdout().write_all(text);
+    if let Err(e) = all {
+        if e.kind() != ErrorKind::BrokenPipe {
+            complain(rt, program, b"write\n");
+        }
     }
     all
 }
@@ -69,10 +77,9 @@ fn answer(rt: &HostRuntime, state: Begun, block: &[u8], out: &mut [u8]) -> Passe
     let fed = feed(state, block, out);
     let after = fed.state;
     let n = fed.written;
-    let next = if written(rt, program, &out[0..n]) {
-        Next::More
-    } else {
-        Next::Failed
+    let next = match written(rt, program, &out[0..n]) {
+        Ok(()) => Next::More,
+        Err(e) => Next::Failed(e),
     };
     Passed {
         state: after,
@@ -92,13 +99,16 @@ fn pass(
     ensures read { IfOk got (λ n. result.state ≡ (feeding state (take (min n (length block.now)) block.now) (length out.old)).state) }
     ensures failed { OnErr got (result.state ≡ state) }
 {
-    let Ok(brought) = got else {
-        let program = state.program;
-        complain(rt, program, b"read\n");
-        return Passed {
-            state: state,
-            next: Next::Failed,
-        };
+    let brought = match got {
+        Ok(n) => n,
+        Err(e) => {
+            let program = state.program;
+            complain(rt, program, b"read\n");
+            return Passed {
+                state: state,
+                next: Next::Failed(e),
+            };
+        }
     };
     if brought == 0 {
         return Passed {
@@ -111,16 +121,21 @@ fn pass(
 }
 
 // A last line without a newline.
-fn end(rt: &HostRuntime, state: Begun, out: &mut [u8]) {
+fn end(rt: &HostRuntime, state: Begun, out: &mut [u8]) -> io::Result<()> {
     let program = state.program;
     let WriteAnswer::Wrote(n) = stream::finish(state, out) else {
-        return;
+        return Ok(());
     };
-    written(rt, program, &out[0..n]);
+    written(rt, program, &out[0..n])
 }
 
-// Nothing says that the input ends, so the loop counts its turns down, from a number that no run uses up.
-fn passes(rt: &HostRuntime, program: Program, block: &mut [u8], out: &mut [u8])
+// Nothing says that the input ends, so the loop counts its turns, to a number that no run uses up.
+fn passes(
+    rt: &HostRuntime,
+    program: Program,
+    block: &mut [u8],
+    out: &mut [u8],
+) -> io::Result<()>
     requires { room_for (length block.old) ≤ length out.old }
 {
     let mut state = Begun::new(program);
@@ -129,24 +144,34 @@ fn passes(rt: &HostRuntime, program: Program, block: &mut [u8], out: &mut [u8])
         let read = pass(rt, state, got, block, out);
         let next = read.next;
         if let Next::Ended = next {
-            end(rt, read.state, out);
-            return;
+            return end(rt, read.state, out);
         }
-        if let Next::Failed = next {
-            return;
+        if let Next::Failed(e) = next {
+            return Err(e);
         }
         state = read.state;
     }
+    Ok(())
 }
 
-// The whole run of a program. No contract can say what is read and written.
-pub fn run(rt: &HostRuntime, program: Program) {
+// Header and answers.
+fn answers(rt: &HostRuntime, program: Program) -> io::Result<()> {
     let mut block = [0; BLOCK];
     let mut out = [0; OUTPUT];
     let WriteAnswer::Wrote(n) = stream::header(program, &mut out) else {
-        return;
+        return Ok(());
     };
-    if written(rt, program, &out[0..n]) {
-        passes(rt, program, &mut block, &mut out);
+    written(rt, program, &out[0..n])?;
+    passes(rt, program, &mut block, &mut out)
+}
+
+// The whole run of a program, and its exit status: 1 where something could not be read or written, which is said. No contract can say what is read and written.
+pub fn run(rt: &HostRuntime, program: Program) -> ExitCode {
+    let Err(e) = answers(rt, program) else {
+        return ExitCode::SUCCESS;
+    };
+    if e.kind() == ErrorKind::BrokenPipe {
+        return ExitCode::from(UNREAD);
     }
+    ExitCode::FAILURE
 }

@@ -130,12 +130,7 @@ fn end(rt: &HostRuntime, state: Begun, out: &mut [u8]) -> io::Result<()> {
 }
 
 // Nothing says that the input ends, so the loop counts its turns, to a number that no run uses up.
-fn passes(
-    rt: &HostRuntime,
-    program: Program,
-    block: &mut [u8],
-    out: &mut [u8],
-) -> io::Result<()>
+fn passes(rt: &HostRuntime, program: Program, block: &mut [u8], out: &mut [u8]) -> io::Result<()>
     requires { room_for (length block.old) ≤ length out.old }
 {
     let mut state = Begun::new(program);
@@ -154,24 +149,26 @@ fn passes(
     Ok(())
 }
 
-// Header and answers.
-fn answers(rt: &HostRuntime, program: Program) -> io::Result<()> {
-    let mut block = [0; BLOCK];
-    let mut out = [0; OUTPUT];
-    let WriteAnswer::Wrote(n) = stream::header(program, &mut out) else {
-        return Ok(());
-    };
-    written(rt, program, &out[0..n])?;
-    passes(rt, program, &mut block, &mut out)
-}
-
-// The whole run of a program, and its exit status: 1 where something could not be read or written, which is said. No contract can say what is read and written.
-pub fn run(rt: &HostRuntime, program: Program) -> ExitCode {
-    let Err(e) = answers(rt, program) else {
-        return ExitCode::SUCCESS;
-    };
+// The exit status of a run that could not read or write on.
+fn failed(e: io::Error) -> ExitCode {
     if e.kind() == ErrorKind::BrokenPipe {
         return ExitCode::from(UNREAD);
     }
     ExitCode::FAILURE
+}
+
+// The whole run of a program, and its exit status. No contract can say what is read and written.
+pub fn run(rt: &HostRuntime, program: Program) -> ExitCode {
+    let mut block = [0; BLOCK];
+    let mut out = [0; OUTPUT];
+    let WriteAnswer::Wrote(n) = stream::header(program, &mut out) else {
+        return ExitCode::SUCCESS;
+    };
+    if let Err(e) = written(rt, program, &out[0..n]) {
+        return failed(e);
+    }
+    match passes(rt, program, &mut block, &mut out) {
+        Ok(()) => ExitCode::SUCCESS,
+        Err(e) => failed(e),
+    }
 }

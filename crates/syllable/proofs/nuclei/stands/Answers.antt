@@ -9,8 +9,7 @@ use Rattle.rules.specs.TakingApart.{implies, stands}
 use Rattle.syllable.specs.Numbers.{num, nums, Packs}
 use Rattle.rules.proofs.Bools.{and_true, and_false}
 use Rattle.syllable.proofs.PackedWords.{same_is, one_is, none_is, begins_o}
-use Rattle.syllable.proofs.nuclei.stands.Statement.{statement}
-use Rattle.syllable.proofs.nuclei.stands.Tie as tie
+use Rattle.syllable.proofs.nuclei.stands.Goals as goal
 
 module _ {p q : ℕ} {w v : Letters} (i : Packs p w) (n : Packs q v) where
   abbrev yê : Bool
@@ -47,10 +46,14 @@ module _ {p q : ℕ} {w v : Letters} (i : Packs p w) (n : Packs q v) where
     after_other : (p ≡ num (word "qu") → ⊥) → (p ≡ 0 → ⊥) → not yê ≡ stands w v
     after_other m l = sym (or-false (not yê)) ∙ and_true _ ∙ rule not_uơ (sym (ne_eqb p 0 l)) (sym (ne_eqb p (num (word "qu")) m))
 
-pub stands_spec : {M : Type 1} → statement M
-stands_spec =
-    tie.close (tie.spec
-    (λ c w v i n. is_uơ i n c.if1.true)
-    (λ c w v i n. after_qu i n c.before.if1.false c.if2.true)
-    (λ c w v i n. after_none i n c.before.before.if1.false c.before.if2.false c.if3.true)
-    (λ c w v i n. after_other i n c.before.before.if1.false c.before.if2.false c.if3.false))
+pub returns-then-nuc-eq-UOW : goal.returns-then-nuc-eq-UOW
+returns-then-nuc-eq-UOW c w v i n = is_uơ i n c.if-nuc-eq-UOW.true
+
+pub returns-then-ini-eq-QU : goal.returns-then-ini-eq-QU
+returns-then-ini-eq-QU c w v i n = after_qu i n c.if-nuc-eq-UOW.false c.if-ini-eq-QU.true
+
+pub returns-then-ini-eq-NONE : goal.returns-then-ini-eq-NONE
+returns-then-ini-eq-NONE c w v i n = after_none i n c.if-nuc-eq-UOW.false c.if-ini-eq-QU.false c.if-ini-eq-NONE.true
+
+pub returns : goal.returns
+returns c w v i n = after_other i n c.if-nuc-eq-UOW.false c.if-ini-eq-QU.false c.if-ini-eq-NONE.false

@@ -6,12 +6,11 @@ use Rattle.rules.specs.Letters.{acute}
 use Rattle.rules.specs.TakingApart.{fits}
 use Rattle.rules.proofs.Bools.{and_true}
 use Rattle.syllable.proofs.Asks.{free_goes}
-use Rattle.syllable.proofs.admitted.Statement.{statement}
-use Rattle.syllable.proofs.admitted.Tie as tie
+use Rattle.syllable.proofs.admitted.Goals as goal
 
-returns : tie.Need-returns
+pub ask-requires : goal.ask-requires
+ask-requires c = tt
+
+pub returns : goal.returns
 unfolding fits
 returns c = ap (λ (n : ℕ). eqb n 0) c.ask.ensures ∙ free_goes _ acute ∙ sym (and_true _)
-
-pub admitted_spec : {M : Type 1} → statement M
-admitted_spec = tie.close (tie.spec (λ c κs. tt) returns)

@@ -12,8 +12,7 @@ use Rattle.rules.proofs.Bools.{and_true}
 use Rattle.rules.proofs.Arms.{Passed, none_in}
 use Rattle.syllable.proofs.PackedWords.{same_is, one_is}
 use Rattle.syllable.proofs.Keys.{Key, keys, every, in_arm, no_elem}
-use Rattle.syllable.proofs.initial_fits.Statement.{statement}
-use Rattle.syllable.proofs.initial_fits.Tie as tie
+use Rattle.syllable.proofs.initial_fits.Goals as goal
 
 abbrev rule : (c_ng g k gh gi qu : Bool) → ℕ → Bool
 rule c_ng g k gh gi qu v =
@@ -46,13 +45,23 @@ module _ (v : ℕ) {p : ℕ} {w : Letters} (h : Packs p w) where
       none : (zs : List Letters) → T (every (in_arm arms) (nums zs)) → false ≡ elem p (nums zs)
       none zs t = no_elem p (nums zs) arms t (none_in (Key p) (Unit {0}) arms m)
 
-pub initial_fits_spec : {M : Type 1} → statement M
-initial_fits_spec =
-    tie.close (tie.spec
-    (λ c w h. ⊎_elim (ruled_by _ h _ _ (and_true _)) (ruled_by _ h _ _ (and_true _)) c.match.keys1)
-    (λ c w h. ruled_by _ h _ _ (and_true _) c.match.keys2)
-    (λ c w h. ruled_by _ h _ _ (and_true _) c.match.keys3)
-    (λ c w h. ⊎_elim (ruled_by _ h _ _ (and_true _)) (ruled_by _ h _ _ (and_true _)) c.match.keys4)
-    (λ c w h. ruled_by _ h _ _ (and_true _) c.match.keys5)
-    (λ c w h. ruled_by _ h _ _ refl c.match.keys6)
-    (λ c w h. free _ h c.match.rest))
+pub returns-in-199 : goal.returns-in-199
+returns-in-199 c w h = ⊎_elim (ruled_by _ h _ _ (and_true _)) (ruled_by _ h _ _ (and_true _)) c.in-199.is
+
+pub returns-in-207 : goal.returns-in-207
+returns-in-207 c w h = ruled_by _ h _ _ (and_true _) c.in-207.is
+
+pub returns-in-215 : goal.returns-in-215
+returns-in-215 c w h = ruled_by _ h _ _ (and_true _) c.in-215.is
+
+pub returns-in-856271 : goal.returns-in-856271
+returns-in-856271 c w h = ⊎_elim (ruled_by _ h _ _ (and_true _)) (ruled_by _ h _ _ (and_true _)) c.in-856271.is
+
+pub returns-in-864463 : goal.returns-in-864463
+returns-in-864463 c w h = ruled_by _ h _ _ (and_true _) c.in-864463.is
+
+pub returns-in-962787 : goal.returns-in-962787
+returns-in-962787 c w h = ruled_by _ h _ _ refl c.in-962787.is
+
+pub returns-in_default : goal.returns-in_default
+returns-in_default c w h = free _ h c.in_default.in_default-own.rest

@@ -4,21 +4,30 @@ ghost use Rattle.std.specs.Prelude.{◌+◌, ◌≤◌, length};
 use crate::{OUTPUT, Totals, Waiting, least, say};
 use rules::{Act, Decision, Outcome, Refusal, Word, WriteAnswer};
 use std::fmt::InlineText;
+use std::io::ErrorKind;
 
-// What waits, written, unless a write has failed before.
+// What waits, written, unless a write has failed before. Nothing is said where nobody reads any more.
 pub(crate) fn flush(rt: &HostRuntime, out: &[u8; OUTPUT], waiting: Waiting) -> Waiting {
     if waiting.failed {
         return waiting;
     }
     let n = least(waiting.count, OUTPUT);
     let held = &out[..];
-    let written = rt.stdout().write_all(&held[0..n]).is_ok();
-    if !written {
+    let Err(e) = rt.stdout().write_all(&held[0..n]) else {
+        return Waiting {
+            count: 0,
+            failed: false,
+            closed: false,
+        };
+    };
+    let closed = e.kind() == ErrorKind::BrokenPipe;
+    if !closed {
         say(rt, b"replay: cannot write\n");
     }
     Waiting {
         count: 0,
-        failed: !written,
+        failed: true,
+        closed: closed,
     }
 }
 
@@ -49,12 +58,14 @@ pub(crate) fn put(
         return Waiting {
             count: put_at(out, at, text),
             failed: false,
+            closed: false,
         };
     }
     let empty = flush(rt, out, waiting);
     Waiting {
         count: put_at(out, 0, text),
         failed: empty.failed,
+        closed: empty.closed,
     }
 }
 

@@ -14,6 +14,9 @@ const BLOCK: usize = 16384;
 
 const OUTPUT: usize = 65536;
 
+// The status where nobody reads the output any more: what a shell says of a program that the signal for it ended.
+const CLOSED: u8 = 141;
+
 // The part of the recording that lies in the block: where in the recording the block starts, the place of the next step in the block,
 // how many bytes the block holds, and whether the recording ends with them.
 #[derive(Clone, Copy)]
@@ -36,11 +39,12 @@ struct Totals {
     appended: u64,
 }
 
-// The bytes of the output that wait to be written, and whether a write failed.
+// The bytes of the output that wait to be written, whether a write failed, and whether it did since nobody reads any more.
 #[derive(Clone, Copy)]
 struct Waiting {
     count: usize,
     failed: bool,
+    closed: bool,
 }
 
 // How far the replay has come. The mode is read before anything else.
@@ -338,6 +342,7 @@ fn header(rt: &HostRuntime, out: &mut [u8; OUTPUT], with_keys: bool) -> Waiting 
     let none = Waiting {
         count: 0,
         failed: false,
+        closed: false,
     };
     if with_keys {
         return columns::put(rt, out, none, b"ms key did shown\n");
@@ -383,6 +388,9 @@ pub fn run(rt: &HostRuntime, with_keys: bool) -> ExitCode {
         Err(waiting) => (waiting, true),
     };
     let written = columns::flush(rt, &out, waiting);
+    if written.closed {
+        return ExitCode::from(CLOSED);
+    }
     if unread | written.failed {
         return ExitCode::FAILURE;
     }

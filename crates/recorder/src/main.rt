@@ -5,8 +5,7 @@ ghost use Rattle.std.specs.Prelude.{◌≡◌, min};
 
 use recording::SPACE;
 use rules::{Refusal, Word, WriteAnswer};
-use std::io;
-use std::io::Read;
+use std::io::{ErrorKind, Read};
 use std::process::ExitCode;
 
 const BLOCK: usize = 16384;
@@ -19,6 +18,9 @@ const ROOM: usize = 1 + 6 * MOST;
 
 // Milliseconds from here on are refused by the writer, however many there are.
 const TOO_LONG: u64 = 4294967296;
+
+// The status where nobody reads the output any more: what a shell says of a program that the signal for it ended.
+const CLOSED: u8 = 141;
 
 const NEWLINE: u8 = b'\n';
 
@@ -356,54 +358,51 @@ fn say_refused(rt: &HostRuntime, r: Refusal, lines: &[u64; MOST]) {
     }
 }
 
-fn write(rt: &HostRuntime, d: Drill, presses: &[u64; MOST], lines: &[u64; MOST]) -> io::Result<()> {
+// The recording, written; a failure where it could not be. Nothing is said of it where nobody reads any more.
+fn write(rt: &HostRuntime, d: Drill, presses: &[u64; MOST], lines: &[u64; MOST]) -> ExitCode {
     let n = least(d.count, MOST);
     let all = &presses[..];
     let mut out = [0; ROOM];
     let answer = recording::write(d.mode, &all[0..n], &mut out);
     match answer {
         WriteAnswer::Wrote(written) => {
-            let done = rt.stdout().write_all(&out[0..written]);
-            if done.is_err() {
-                say(rt, b"record: cannot write\n");
+            let Err(e) = rt.stdout().write_all(&out[0..written]) else {
+                return ExitCode::SUCCESS;
+            };
+            if e.kind() == ErrorKind::BrokenPipe {
+                return ExitCode::from(CLOSED);
             }
-            done
+            say(rt, b"record: cannot write\n");
+            ExitCode::FAILURE
         }
         WriteAnswer::Refused(r) => {
             say_refused(rt, r, lines);
-            Ok(())
+            ExitCode::SUCCESS
         }
     }
 }
 
-fn finish(
-    rt: &HostRuntime,
-    d: Drill,
-    presses: &[u64; MOST],
-    lines: &[u64; MOST],
-) -> io::Result<()> {
+fn finish(rt: &HostRuntime, d: Drill, presses: &[u64; MOST], lines: &[u64; MOST]) -> ExitCode {
     let stage = d.stage;
     if let Stage::Wrong(fault) = stage {
         say_fault(rt, d.line, fault);
-        return Ok(());
+        return ExitCode::SUCCESS;
     }
     if let Stage::NoMode = stage {
         say_fault(rt, d.line, Fault::NotAMode);
-        return Ok(());
+        return ExitCode::SUCCESS;
     }
     write(rt, d, presses, lines)
 }
 
-// Fails where something could not be read or written.
+// A failure where something could not be read or written. A drill that is refused is none, and said on standard error.
 fn main(rt: HostRuntime) -> ExitCode {
     let mut presses = [0; MOST];
     let mut lines = [0; MOST];
     let read = read_all(&rt, &mut presses, &mut lines);
     let next = read.next;
     if let Next::Ended = next {
-        if finish(&rt, read.drill, &presses, &lines).is_ok() {
-            return ExitCode::SUCCESS;
-        }
+        return finish(&rt, read.drill, &presses, &lines);
     }
     ExitCode::FAILURE
 }

@@ -13,4 +13,4 @@ returns-then-mark-gt1 c = c.no_record-then-mark-gt1.ensures ∙ another_mark c.a
 pub returns : goal.returns
 returns c =
     let bs = c.args.buffer.now in
-    all_read bs c.if-buffer-ne-LENGTH.false c.if-mark-gt1.false c.copy.ensures.1 c.letters_in-letters.ensures c.copy2.ensures.1 c.copy3.ensures.1
+    all_read bs c.if-buffer-ne-LENGTH.false c.if-mark-gt1.false c.copy_from_slice.ensures.after c.letters_in-letters.ensures c.copy_from_slice-2.ensures.after c.copy_from_slice-3.ensures.after

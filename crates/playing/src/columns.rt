@@ -17,17 +17,17 @@ pub(crate) fn flush(rt: &HostRuntime, out: &[u8; OUTPUT], waiting: Waiting) -> W
         return Waiting {
             count: 0,
             failed: false,
-            closed: false,
+            unread: false,
         };
     };
-    let closed = e.kind() == ErrorKind::BrokenPipe;
-    if !closed {
+    let unread = e.kind() == ErrorKind::BrokenPipe;
+    if !unread {
         say(rt, b"replay: cannot write\n");
     }
     Waiting {
         count: 0,
         failed: true,
-        closed: closed,
+        unread: unread,
     }
 }
 
@@ -58,14 +58,14 @@ pub(crate) fn put(
         return Waiting {
             count: put_at(out, at, text),
             failed: false,
-            closed: false,
+            unread: false,
         };
     }
     let empty = flush(rt, out, waiting);
     Waiting {
         count: put_at(out, 0, text),
         failed: empty.failed,
-        closed: empty.closed,
+        unread: empty.unread,
     }
 }
 

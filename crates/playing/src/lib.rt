@@ -1,5 +1,7 @@
 // A replay of any length: the recording on standard input played key by key, what it commits or what each key did on standard output, and the summary behind it.
 // Reads, plays and writes in blocks; a failed read or write ends the run, with what was played so far written out and a message on standard error.
+#![tactic(auto)]
+
 ghost use Rattle.std.specs.Prelude.{◌≡◌, min};
 
 use recording::{BeginAnswer, KeyPress, Press, Progress, SPACE};
@@ -14,8 +16,9 @@ const BLOCK: usize = 16384;
 
 const OUTPUT: usize = 65536;
 
-// The status where nobody reads the output any more: what a shell says of a program that the signal for it ended.
-const CLOSED: u8 = 141;
+// The exit status where nobody reads the output any more: a shell's for a program that SIGPIPE ended. The signal itself is
+// passed over before main begins, and the write fails.
+const UNREAD: u8 = 141;
 
 // The part of the recording that lies in the block: where in the recording the block starts, the place of the next step in the block,
 // how many bytes the block holds, and whether the recording ends with them.
@@ -44,7 +47,7 @@ struct Totals {
 struct Waiting {
     count: usize,
     failed: bool,
-    closed: bool,
+    unread: bool,
 }
 
 // How far the replay has come. The mode is read before anything else.
@@ -58,12 +61,12 @@ struct Play {
     waiting: Waiting,
 }
 
-// What follows a turn: another, or nothing but what waits, at the end of the recording or where it cannot be read on.
+// What follows a turn: another, or nothing but what waits, at the end of the recording or where a read failed.
 #[derive(Clone, Copy)]
 enum Next {
     More(Play),
     Done(Waiting),
-    Unread(Waiting),
+    Failed(Waiting),
 }
 
 // After a read: the window, or nothing where it failed.
@@ -299,7 +302,7 @@ fn turn(
         let answer = blocks::fill(rt, block, at);
         let Read::Filled(window) = answer else {
             let waiting = p.waiting;
-            return Next::Unread(waiting);
+            return Next::Failed(waiting);
         };
         let mut next = p;
         next.window = window;
@@ -342,7 +345,7 @@ fn header(rt: &HostRuntime, out: &mut [u8; OUTPUT], with_keys: bool) -> Waiting 
     let none = Waiting {
         count: 0,
         failed: false,
-        closed: false,
+        unread: false,
     };
     if with_keys {
         return columns::put(rt, out, none, b"ms key did shown\n");
@@ -365,7 +368,7 @@ fn turns(
         let next = turn(rt, block, out, p, &mut keys, &mut word);
         match next {
             Next::Done(waiting) => return Ok(waiting),
-            Next::Unread(waiting) => return Err(waiting),
+            Next::Failed(waiting) => return Err(waiting),
             Next::More(q) => {
                 p = q;
             }
@@ -383,15 +386,15 @@ fn turns(
 pub fn run(rt: &HostRuntime, with_keys: bool) -> ExitCode {
     let mut block = [0; BLOCK];
     let mut out = [0; OUTPUT];
-    let (waiting, unread) = match turns(rt, with_keys, &mut block, &mut out) {
+    let (waiting, cut) = match turns(rt, with_keys, &mut block, &mut out) {
         Ok(waiting) => (waiting, false),
         Err(waiting) => (waiting, true),
     };
     let written = columns::flush(rt, &out, waiting);
-    if written.closed {
-        return ExitCode::from(CLOSED);
+    if written.unread {
+        return ExitCode::from(UNREAD);
     }
-    if unread | written.failed {
+    if cut | written.failed {
         return ExitCode::FAILURE;
     }
     ExitCode::SUCCESS

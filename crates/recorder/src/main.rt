@@ -1,6 +1,8 @@
 // The recorder: lines that a person can write, from standard input, made into the recording of a drill on standard output.
 // The first line is T or V. A further line is milliseconds, or milliseconds, a space and keys; empty lines are passed over.
 // What is wrong is said on standard error, and then nothing is written.
+#![tactic(auto)]
+
 ghost use Rattle.std.specs.Prelude.{◌≡◌, min};
 
 use recording::SPACE;
@@ -19,8 +21,9 @@ const ROOM: usize = 1 + 6 * MOST;
 // Milliseconds from here on are refused by the writer, however many there are.
 const TOO_LONG: u64 = 4294967296;
 
-// The status where nobody reads the output any more: what a shell says of a program that the signal for it ended.
-const CLOSED: u8 = 141;
+// The exit status where nobody reads the output any more: a shell's for a program that SIGPIPE ended. The signal itself is
+// passed over before main begins, and the write fails.
+const UNREAD: u8 = 141;
 
 const NEWLINE: u8 = b'\n';
 
@@ -370,7 +373,7 @@ fn write(rt: &HostRuntime, d: Drill, presses: &[u64; MOST], lines: &[u64; MOST])
                 return ExitCode::SUCCESS;
             };
             if e.kind() == ErrorKind::BrokenPipe {
-                return ExitCode::from(CLOSED);
+                return ExitCode::from(UNREAD);
             }
             say(rt, b"record: cannot write\n");
             ExitCode::FAILURE

@@ -8,7 +8,7 @@ ghost use Rattle.commit.specs.Rulings.{judged, ruling_of, handed_from};
 use rules::{CommitAnswer, Decision, Refusal, TypeAnswer, Word};
 
 // What is to be handed back: so many bytes of the text, the keys, or nothing.
-#[derive(Drop)]
+#[derive(Clone, Copy)]
 pub enum Ruling {
     Keep(usize),
     Restore,

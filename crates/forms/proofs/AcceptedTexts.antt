@@ -46,6 +46,7 @@ shown_spelled m mode w t s out room =
 -- And whatever is spelled, in whatever mode and output, is the shown text of a valid syllable.
 shown_by : (text : List ℕ) (r : Reading) → read text ≡ r → T (not (is_stuck r)) → fault_of r ≡ 0 → ShownBySyllable text
 shown_by text (reading ss) e k f = let a = only_shown text ss e f in record { letters = letters_in ss; tone = tone_in ss; syllable = a.syllable; as_shown = a.text_is }
+shown_by text (stuck_at _) e k f = elim k [ ]
 
 pub spelled_shown : (m : ℕ) (text out : List ℕ) {n : ℕ} → (spell m text out).answer ≡ Wrote n → ShownBySyllable text
 spelled_shown m text out e = let a = written_accepts m text out e in shown_by text (read text) refl a.not_stuck a.faultless

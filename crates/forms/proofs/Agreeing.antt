@@ -196,6 +196,9 @@ nucleus_agrees (z ∷ zs) (kept {x = x} {u = u} {w = w} a) t =
 nucleus_agrees (z ∷ zs) (bared {x = x} {u = u} {w = w} a) t =
     let (h, k) = and_if (is x z) (same w zs) t in
     and_so (agrees_at (shaped plain x) z) (agrees u zs) (and_i (eqb x.base z.base) true (search and_l) tt) (nucleus_agrees zs a k)
+nucleus_agrees [] (kept {x = x} {u = u} {w = w} a) t = elim t [ ]
+nucleus_agrees [] (bared {x = x} {u = u} {w = w} a) t = elim t [ ]
+nucleus_agrees (z ∷ zs) end t = elim t [ ]
 
 plain_finals : (f : Letters) → T (one_of f finals) → T (all_plain f)
 plain_finals f k = let m = meet (same f) all_plain finals k tt in same_plain f m.here m.one m.other

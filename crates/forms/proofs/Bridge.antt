@@ -41,6 +41,7 @@ passed w t v =
 -- a word without leftovers is its initial, nucleus and final
 nil : (w : Letters) → T (is_nil w) → w ≡ []
 nil [] t = refl
+nil (_ ∷ _) t = elim t [ ]
 
 pub parts : (w : Letters) → T (is_nil (leftovers w)) → initial w ++ (nucleus w ++ final w) ≡ w
 parts w t = ap (λ (z : Letters). initial w ++ (nucleus w ++ z)) (sym (append-nil (final w)) ∙ ap (◌++◌ (final w)) (sym (nil (leftovers w) t))) ∙ whole w
@@ -84,6 +85,7 @@ joined_once b r = go (joins b r) refl
     first_moved (x ∷ b) [] t = absurd (joins_none (x ∷ b) t)
     first_moved (x ∷ []) (y ∷ r) t = joins_two x y [] r
     first_moved (x ∷ z ∷ b) (y ∷ r) t = absurd (subst T (joins_two x z b (y ∷ r)) t)
+first_moved [] _ t = elim t [ ]
 
     go : (c : Bool) → joins b r ≡ c → joins (initial_of c b r) (nucleus_of c r) ≡ false
     go true e = first_moved b r (subst T (sym e) tt)
@@ -96,6 +98,7 @@ in_first h (x ∷ xs) ys t = go (h x) t (in_first h xs ys)
     go : (b : Bool) → T (elim b [ true ↦ true | false ↦ some_word h xs ]) → (T (some_word h xs) → T (some_word h (xs ++ ys))) → T (elim b [ true ↦ true | false ↦ some_word h (xs ++ ys) ])
     go true t k = tt
     go false t k = k t
+in_first h [] ys t = elim t [ ]
 
 in_second : (h : Letters → Bool) (xs ys : List Letters) → T (some_word h ys) → T (some_word h (xs ++ ys))
 in_second h [] ys t = t
@@ -107,15 +110,18 @@ in_second h (x ∷ xs) ys t = go (h x) (in_second h xs ys t)
 
 in_those : (h : Letters → Bool) (c : Bool) (ws : List Letters) → T c → T (some_word h ws) → T (some_word h (those_if c ws))
 in_those h true ws t u = u
+in_those h false ws t u = elim t [ ]
 
 gathered : (h f : Letters → Bool) (k : Letters → List Letters) (zs : List Letters) → ((z : Letters) → T (f z) → T (some_word h (k z))) → T (some_word f zs) → T (some_word h (gather k zs))
 gathered h f k (z ∷ zs) g t = either (f z) (some_word f zs) (λ u. in_first h (k z) (gather k zs) (g z u)) (λ u. in_second h (k z) (gather k zs) (gathered h f k zs g u)) t
+gathered h f k [] g t = elim t [ ]
 
 gathered_rows : (h : Letters → Bool) (f : Row → Letters → Bool) (k : Row → Letters → List Letters) (rs : List Row) →
     ((r : Row) (z : Letters) → T (f r z) → T (some_word h (k r z))) → T (some_row f rs) → T (some_word h (gather_rows k rs))
 gathered_rows h f k (r ∷ rs) g t =
     either (some_word (f r) r.nuclei) (some_row f rs) (λ u. in_first h (gather (k r) r.nuclei) (gather_rows k rs) (gathered h (f r) (k r) r.nuclei (g r) u))
     (λ u. in_second h (gather (k r) r.nuclei) (gather_rows k rs) (gathered_rows h f k rs g u)) t
+gathered_rows h f k [] g t = elim t [ ]
 
 -- so a word that passed the checks is one of the forms
 module _ (w : Letters) (t : ℕ) (s : Passed w t) where

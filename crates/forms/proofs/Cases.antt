@@ -12,10 +12,14 @@ use Rattle.rules.proofs.Bools.{and_if, and_so}
 pub same_cased : (w z : Letters) → T (same w z) → w ≡ cased_as (capitals w) z
 same_cased [] [] t = refl
 same_cased (x ∷ xs) (z ∷ zs) t = let u = and_if (is x z) (same xs zs) t in ap₂ (λ (y : Letter) (ys : Letters). y ∷ ys) (is_letter x z u.0) (same_cased xs zs u.1)
+same_cased [] (z ∷ zs) t = elim t [ ]
+same_cased (x ∷ xs) [] t = elim t [ ]
 
 pub same_append : (v w y z : Letters) → T (same v y) → T (same w z) → T (same (v ++ w) (y ++ z))
 same_append [] w [] z t u = u
 same_append (x ∷ v) w (y ∷ ys) z t u = let (h, k) = and_if (is x y) (same v ys) t in and_so (is x y) (same (v ++ w) (ys ++ z)) h (same_append v w ys z k u)
+same_append [] w (y ∷ ys) z t u = elim t [ ]
+same_append (x ∷ v) w [] z t u = elim t [ ]
 
 pub same_as_cased : (cs : List Bool) (a z : Letters) → same a (cased_as cs z) ≡ same a z
 same_as_cased cs [] [] = refl

@@ -40,6 +40,8 @@ pub record Changed (e : Edit) (f : Letters → Bool) : Type 0 where
 
 pub changed : (e : Edit) (f : Letters → Bool) → T (elim e [ nothing ↦ false | off g v ↦ false | change a g v ↦ f v ]) → Changed e f
 changed (change a g v) f t = record { act = a; touches = g; to = v; is_so = refl; passes = t }
+changed nothing f t = elim t [ ]
+changed (off _ _) f t = elim t [ ]
 
 -- the capitals among the letters of a course
 abbrev pub item_capitals : List Item → List Bool

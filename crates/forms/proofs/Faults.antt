@@ -57,6 +57,8 @@ same_signs [] [] e t = refl
 same_signs (s ∷ ss) (z ∷ zs) e t =
     ap₂ (λ (x : Sign) (xs : List Sign). x ∷ xs) (ap₂ sign (head-eq_of_cons-eq e) (eqb→eq s.tone z.tone (and_l (eqb s.tone z.tone) (same_tones ss zs) t)))
     (same_signs ss zs (tail-eq_of_cons-eq e) (and_r (eqb s.tone z.tone) (same_tones ss zs) t))
+same_signs [] (z ∷ zs) e t = elim t [ ]
+same_signs (s ∷ ss) [] e t = elim t [ ]
 
 abbrev six_tones : Sign → Bool
 six_tones s = leb s.tone dot

@@ -78,6 +78,7 @@ agrees_ươ (x ∷ nuc) t =
   where
     go : (p q : Bool) → T (p || p) → T (p || q)
     go true q t = tt
+agrees_ươ [] t = elim t [ ]
 
 stands_ươ : (ini : Letters) → T (stands ini (word "ươ"))
 stands_ươ ini = go (same ini (word "qu"))
@@ -119,6 +120,7 @@ one_and v u y (z ∷ zs) h t =
     let more = one_and v u y zs h in
     either (same v z) (one_of v zs) (λ s. or_so (same (v ++ u) (z ++ y)) (one_of (v ++ u) (map (λ z. z ++ y) zs)) (same_append v u z y s h))
     (λ s. or_rest (same (v ++ u) (z ++ y)) (one_of (v ++ u) (map (λ z. z ++ y) zs)) (more s)) t
+one_and v u y [] h t = elim t [ ]
 
 module _ (w : Letters) (t : ℕ) where
   -- the verdict, by what check 6 asks

@@ -60,6 +60,14 @@ toned_runs (a_tone {t = t} c) f = then (by_tone t c f) stop
 differ : (r q : Role) → T (apart r q) → Differ r q
 differ (ShapeRole r) StrokeRole t = shape_stroke
 differ StrokeRole (ShapeRole q) t = swapped shape_stroke
+differ (ToneRole _) q t = elim t [ ]
+differ (ShapeRole r) (ToneRole _) t = elim t [ ]
+differ (ShapeRole r) (ShapeRole q) t = elim t [ ]
+differ (ShapeRole r) NoRole t = elim t [ ]
+differ StrokeRole (ToneRole _) t = elim t [ ]
+differ StrokeRole StrokeRole t = elim t [ ]
+differ StrokeRole NoRole t = elim t [ ]
+differ NoRole q t = elim t [ ]
 
 tone_differs : (q : ToneKey) (r : Role) (v : Letters) {b : Act} {g : Touched} {u : Letters} → edit_by r v ≡ change b g u → Differ (ToneRole q) r
 tone_differs q (ToneRole r) v e = let z : ◌≡◌ {A = ℕ} 0 1 = cc in absurd (omega arith)
@@ -82,9 +90,12 @@ alone_so r (q ∷ qs) v t =
 -- what the last step says: the key changes the letters to w
 only_if_so : (b : Bool) (e : Edit) → T b → only_if b e ≡ e
 only_if_so true e t = refl
+only_if_so mathlib.Core.Bool.false e t = elim t [ ]
 
 first_so : (e f : Edit) {d : Edit} → T (is_nothing e) → f ≡ d → first e f ≡ d
 first_so nothing f t p = p
+first_so (off _ _) f {d = d} t p = elim t [ ]
+first_so (change _ _ _) f {d = d} t p = elim t [ ]
 
 module _ (v w : Letters) (c : capitals v ≡ capitals w) (k : (x : Letters) → T (same x w) → T (admitted x)) where
   to_w : (x : Letters) {a : Act} {g : Touched} → T (same x w) → Good v (change a g x) → x ≡ w
@@ -94,6 +105,8 @@ module _ (v w : Letters) (c : capitals v ≡ capitals w) (k : (x : Letters) → 
   asked_so sh (fresh g x) q t =
       let e = only_if_so (admitted x) (change (Shape sh) g x) (k x t) in
       (Shape sh, g, e ∙ ap (change (Shape sh) g) (to_w x t (subst (Good v) e q)))
+  asked_so sh nowhere q t = elim t [ ]
+  asked_so sh (already _ _) q t = elim t [ ]
 
   led : (h : ShapeKey) → T (leads h v w) → (a : Act) × (g : Touched) × (shape_edit h v ≡ change a g w)
   led (CircumflexOn b) t = asked_so circumflex (circumflex_on b v) (good_shape (CircumflexOn b) v) t
@@ -108,10 +121,14 @@ module _ (v w : Letters) (c : capitals v ≡ capitals w) (k : (x : Letters) → 
 
   changed_to : (e : Edit) → Good v e → T (changes_to w e) → (a : Act) × (g : Touched) × (e ≡ change a g w)
   changed_to (change a g x) q t = (a, g, ap (change a g) (to_w x t q))
+  changed_to nothing q t = elim t [ ]
+  changed_to (off _ _) q t = elim t [ ]
 
   last_step_law : (r : Role) → T (last_step w r v) → (a : Act) × (g : Touched) × (edit_by r v ≡ change a g w)
   last_step_law (ShapeRole s) h = led s h
   last_step_law StrokeRole h = changed_to (stroke_edit v) (good_stroke v) h
+  last_step_law (ToneRole _) h = elim h [ ]
+  last_step_law NoRole h = elim h [ ]
 
 -- from letters v, in a word with the tone t or with none
 pub record Chained (w v : Letters) (rs : List Role) (t : ℕ) : Type 0 where

@@ -61,6 +61,7 @@ without_tone_law x h = in_case_law x no_tone (and_l (both_known no_tone x.base x
 
 so : (p q : Bool) → T (implies p q) → T p → T q
 so true q t u = t
+so false q t u = elim u [ ]
 
 with_tone : (x : Letter) (t : ℕ) → t ≤ dot → T (known x.base x.shape) → T (vowel x.base) → T (in_alphabet (sign x t))
 with_tone x t m h v =
@@ -100,6 +101,7 @@ as_shown w t v = go (eqb t no_tone) refl
   where
     at_place : (p : Place) → T (not (eqb t no_tone)) → T (on_vowel p w) → AsShown w t (signs_at p t w)
     at_place (At n) h k = toned n h k
+at_place Nowhere h k = elim k [ ]
 
     go : (b : Bool) → eqb t no_tone ≡ b → AsShown w t (signs w t)
     go true e =
@@ -123,6 +125,8 @@ toned_known zero t (x ∷ w) m h v =
 toned_known (suc n) t (x ∷ w) m h v =
     and_i (in_alphabet (sign x no_tone)) (all_in_alphabet (tone_at n t w)) (without_tone_law x (and_l (known x.base x.shape) (each_letter known w) h))
     (toned_known n t w m (and_r (known x.base x.shape) (each_letter known w) h) v)
+toned_known zero t [] m h v = elim v [ ]
+toned_known (suc n) t [] m h v = elim v [ ]
 
 known_so : {w : Letters} {t : ℕ} {ss : List Sign} → AsShown w t ss → t ≤ dot → T (each_letter known w) → T (all_in_alphabet ss)
 known_so {w} (bare e) m h = plain_known w h
@@ -154,6 +158,8 @@ one_tone : (n t : ℕ) (w : Letters) → T (not (eqb t no_tone)) → T (vowel_at
 one_tone zero t (x ∷ w) h v =
     ap (λ (b : Bool). elim b [ true ↦ tones_in (without_tone w) | false ↦ t ∷ tones_in (without_tone w) ]) (is_false (eqb t no_tone) h) ∙ ap (◌∷◌ t) (no_tones w)
 one_tone (suc n) t (x ∷ w) h v = one_tone n t w h v
+one_tone zero t [] h v = elim v [ ]
+one_tone (suc n) t [] h v = elim v [ ]
 
 pub record Tones (t : ℕ) (ss : List Sign) : Type 0 where
   pub tone : tone_in ss ≡ t

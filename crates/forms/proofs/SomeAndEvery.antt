@@ -15,6 +15,7 @@ pub record Met (f g : Letters → Bool) : Type 0 where
 
 pub meet : (f g : Letters → Bool) (zs : List Letters) → T (some_word f zs) → T (every g zs) → Met f g
 meet f g (z ∷ zs) t u = either (f z) (some_word f zs) (λ h. record { here = z; one = h; other = and_l (g z) (every g zs) u }) (λ h. meet f g zs h (and_r (g z) (every g zs) u)) t
+meet f g [] t u = elim t [ ]
 
 -- the nuclei of the rows
 abbrev pub every_row : (Letters → Bool) → List Row → Bool
@@ -32,3 +33,4 @@ meet_row f g (r ∷ rs) t u =
     either (some_word (f r) r.nuclei) (some_row f rs)
     (λ h. let p = meet (f r) g r.nuclei h (and_l (every g r.nuclei) (every_row g rs) u) in record { row = r; here = p.here; one = p.one; other = p.other })
     (λ h. meet_row f g rs h (and_r (every g r.nuclei) (every_row g rs) u)) t
+meet_row f g [] t u = elim t [ ]

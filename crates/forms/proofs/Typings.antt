@@ -48,6 +48,7 @@ keeps_valid m ks v =
   where
     go : (b : Bool) → T b → keep_if b ≡ Keep
     go true t = refl
+go mathlib.Core.Bool.false t = elim t [ ]
 
 not_refused : (m : ℕ) (ks : List ℕ) → T (is_mode m) → T (all (is_key m) ks) → length ks ≤ 9 → type_all m ks ≡ record { answer = AllTyped; word = holding (new_word m) (typed m ks) }
 unfolding type_all

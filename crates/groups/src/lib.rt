@@ -4,20 +4,20 @@ ghost use Rattle.std.proofs.Math.Option.{some};
 ghost use Rattle.groups.specs.Numbers.{written as written_of, in_front as in_front_of, number_in, number, answer_of, held};
 
 // A number that was read: its value, and in how many groups it stands.
-#[derive(Drop)]
+#[derive(Clone, Copy)]
 pub struct Number {
     pub value: u32,
     pub groups: usize,
 }
 
-#[derive(Drop)]
+#[derive(Clone, Copy)]
 pub enum NumberAnswer {
     Read(Number),
     NoNumber,
 }
 
 // A number as it is written: its groups, and how many of the five they are.
-#[derive(Drop)]
+#[derive(Clone, Copy)]
 pub struct Groups {
     pub bytes: [u8; 5],
     pub count: usize,

@@ -40,15 +40,6 @@ length_part place many bs h = simp (length-take, length-drop) (omega arith)
 pub last_byte : (place : ℕ) (bs : List ℕ) → length bs ≡ place + 1 → drop place bs ≡ byte place bs ∷ []
 last_byte place bs e = drop-cons bs place 0 (omega arith) ∙ ap (λ (l : List ℕ). byte place bs ∷ l) (drop_of_length-le bs {i = suc place} (omega arith))
 
--- what `bytes::copy` leaves: of a text copied into a part of its length, the text
-abbrev copy_of : List ℕ → List ℕ → List ℕ
-copy_of src old = take (length src) src ++ drop (length src) old
-
-copied : (many : ℕ) (src old : List ℕ) → length src ≡ many → copy_of src (take many old) ≡ src
-copied many src old e =
-    let room : length (take many old) ≤ length src = simp length-take (omega arith) in
-    ap₂ ◌++◌ (take-length src) (drop_of_length-le (take many old) {i = length src} room) ∙ append-nil src
-
 is_mark_law : (m : ℕ) → m ≤ 1 → is_mark m ≡ true
 is_mark_law zero h = refl
 is_mark_law (suc zero) h = refl
@@ -73,18 +64,14 @@ module _ (bs : List ℕ) where
     pub letters_read : byte 3 bs ≤ 1 → numbers (part 40 64 bs) ≡ (as_record bs).word.letters
     letters_read h = sym (ap (λ (r : RecordRead). r.word.letters) (marked true (is_mark_law (byte 3 bs) h)))
 
-    -- a part copied out
-    part_read : {new : List ℕ} (place : ℕ) → place + 32 ≤ 169 → new ≡ copy_of (part place 32 bs) (replicate 32 0) → new ≡ part place 32 bs
-    part_read place h e = e ∙ copied 32 (part place 32 bs) (replicate 32 0) (length_part place 32 bs (omega arith))
-
-    pub all_read : {keys letters by shaped : List ℕ} → byte 3 bs ≤ 1 → keys ≡ copy_of (part 8 32 bs) (replicate 32 0) → letters ≡ numbers (part 40 64 bs) →
-        by ≡ copy_of (part 104 32 bs) (replicate 32 0) → shaped ≡ copy_of (part 136 32 bs) (replicate 32 0) →
+    pub all_read : {keys letters by shaped : List ℕ} → byte 3 bs ≤ 1 → keys ≡ part 8 32 bs → letters ≡ numbers (part 40 64 bs) →
+        by ≡ part 104 32 bs → shaped ≡ part 136 32 bs →
         record { is_record = true; word = with_parts (word_from bs) (word_from bs).closed keys letters by shaped (word_from bs).toned_by } ≡ as_record bs
     all_read h p q r s =
         (λ j.
         record {
           is_record = true;
-          word = with_parts (word_from bs) (word_from bs).closed (part_read 8 (omega arith) p j) (q j) (part_read 104 (omega arith) r j) (part_read 136 (omega arith) s j) (word_from bs).toned_by;
+          word = with_parts (word_from bs) (word_from bs).closed (p j) (q j) (r j) (s j) (word_from bs).toned_by;
         }) ∙
         sym (marked true (is_mark_law (byte 3 bs) h))
 
@@ -146,11 +133,6 @@ filled {old} {front} {bs} {put} {new} {place} many p e f =
           sym (append_assoc front new (drop many rest)) ∙ ap (λ (l : List ℕ). (front ++ new) ++ l) (drop-drop many place old);
     }
 
--- a part that is copied
-filled_copy : {old front bs put : List ℕ} {place : ℕ} (new : List ℕ) (many : ℕ) → put ≡ copy_of new (part place many bs) → length new ≡ many → Filled old front place bs →
-    Filled old (front ++ new) (place + many) (put_mid place many bs put)
-filled_copy {bs = bs} {place = place} new many p e f = filled many (p ∙ copied many new (drop place bs) e) e f
-
 -- and the last byte
 filled_up : {old front bs : List ℕ} {place : ℕ} (n : ℕ) → length old ≡ place + 1 → Filled old front place bs → set bs place n ≡ front ++ n ∷ []
 filled_up {old} {front} {bs} {place} n e f =
@@ -175,11 +157,9 @@ module _ (w : Word) (old : List ℕ) where
               ap (λ (m : ℕ). w.mode ∷ w.count ∷ w.tone ∷ m ∷ w.typed ∷ w.acted ∷ w.undone ∷ w.appended ∷ drop 8 old) (mark_byte_law w.closed);
         }
 
-    pub all_written : {keys letters by shaped : List ℕ} → keys ≡ copy_of w.keys (part 8 32 (headed w old)) → letters ≡ pairs w.letters →
-        by ≡ copy_of w.appended_by (part 104 32 (put_letters (put_keys (headed w old) keys) letters)) →
-        shaped ≡ copy_of w.shaped_by (part 136 32 (put_by (put_letters (put_keys (headed w old) keys) letters) by)) →
+    pub all_written : {keys letters by shaped : List ℕ} → keys ≡ w.keys → letters ≡ pairs w.letters → by ≡ w.appended_by → shaped ≡ w.shaped_by →
         (true ≡ is_long old) × (set (put_shaped (put_by (put_letters (put_keys (headed w old) keys) letters) by) shaped) 168 w.toned_by ≡ record_written w old)
     all_written p q r s =
-        let lettered = filled 64 q (length_pairs w.letters ∙ omega (arith, whole.letters)) (filled_copy w.keys 32 p whole.keys head_filled) in
-        let placed = filled_copy w.shaped_by 32 s whole.shaped_by (filled_copy w.appended_by 32 r whole.by lettered) in
+        let lettered = filled 64 q (length_pairs w.letters ∙ omega (arith, whole.letters)) (filled 32 p whole.keys head_filled) in
+        let placed = filled 32 s whole.shaped_by (filled 32 r whole.by lettered) in
         (sym (eq-eqb (length old) 169 long), filled_up w.toned_by long placed ∙ sym (written long))

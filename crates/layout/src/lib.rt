@@ -108,12 +108,12 @@ pub fn read(buffer: &[u8]) -> RecordRead
         return no_record();
     }
     let mut keys = [0; Word::KEYS];
-    bytes::copy(&buffer[AT_KEYS..AT_LETTERS], &mut keys);
+    keys.copy_from_slice(&buffer[AT_KEYS..AT_LETTERS]);
     let letters = letters_in(&buffer[AT_LETTERS..AT_APPENDED_BY]);
     let mut appended_by = [0; Word::KEYS];
-    bytes::copy(&buffer[AT_APPENDED_BY..AT_SHAPED_BY], &mut appended_by);
+    appended_by.copy_from_slice(&buffer[AT_APPENDED_BY..AT_SHAPED_BY]);
     let mut shaped_by = [0; Word::KEYS];
-    bytes::copy(&buffer[AT_SHAPED_BY..AT_TONED_BY], &mut shaped_by);
+    shaped_by.copy_from_slice(&buffer[AT_SHAPED_BY..AT_TONED_BY]);
     RecordRead {
         is_record: true,
         word: Word {
@@ -150,13 +150,13 @@ pub fn write(w: Word, buffer: &mut [u8]) -> bool
     buffer[AT_UNDONE] = w.undone;
     buffer[AT_APPENDED] = w.appended;
     let keys = w.keys;
-    bytes::copy(&keys, &mut buffer[AT_KEYS..AT_LETTERS]);
+    buffer[AT_KEYS..AT_LETTERS].copy_from_slice(&keys);
     let letters = w.letters;
     put_pairs(&letters, &mut buffer[AT_LETTERS..AT_APPENDED_BY]);
     let appended_by = w.appended_by;
-    bytes::copy(&appended_by, &mut buffer[AT_APPENDED_BY..AT_SHAPED_BY]);
+    buffer[AT_APPENDED_BY..AT_SHAPED_BY].copy_from_slice(&appended_by);
     let shaped_by = w.shaped_by;
-    bytes::copy(&shaped_by, &mut buffer[AT_SHAPED_BY..AT_TONED_BY]);
+    buffer[AT_SHAPED_BY..AT_TONED_BY].copy_from_slice(&shaped_by);
     buffer[AT_TONED_BY] = w.toned_by;
     true
 }

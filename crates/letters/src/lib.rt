@@ -12,7 +12,7 @@ mod vowels;
 use rules::{CAPITAL, DOT, NO_TONE, STROKE, Word};
 
 // A letter that starts at a place of a text: its number, the tone on it, and its length in bytes.
-#[derive(Drop)]
+#[derive(Clone, Copy)]
 pub enum LetterRead {
     Letter {
         number: u16,

@@ -15,7 +15,7 @@ const SPACE: u8 = b' ';
 const NEWLINE: u8 = b'\n';
 
 // The programs that answer lines.
-#[derive(Drop)]
+#[derive(Clone, Copy)]
 pub enum Program {
     Drill,
     DrillWithKeys,

@@ -15,5 +15,6 @@ pub fn write(text: &[u8], out: &mut [u8]) -> WriteAnswer
             value: needed,
         });
     }
-    WriteAnswer::Wrote(bytes::copy(text, out))
+    out[0..needed].copy_from_slice(text);
+    WriteAnswer::Wrote(needed)
 }

@@ -49,7 +49,7 @@ fn joins(before: &[u16], run: &[u16]) -> bool
 
 // Where the initial, the nucleus and the final end (`final` is a reserved word). Each begins where the one before it ends,
 // the initial at 0, and the leftovers reach to the end of the word.
-#[derive(Drop)]
+#[derive(Clone, Copy)]
 pub struct Parts {
     pub initial: usize,
     pub nucleus: usize,

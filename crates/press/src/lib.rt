@@ -5,7 +5,7 @@ ghost use Rattle.press.specs.StepAndShow.{step_and_show};
 use rules::{Outcome, Refusal, StepAnswer, Word, WriteAnswer};
 
 // What typing a key and showing the word comes to: what the key did, with the bytes written.
-#[derive(Drop)]
+#[derive(Clone, Copy)]
 pub enum ShownAnswer {
     Did(Outcome, usize),
     Refused(Refusal),

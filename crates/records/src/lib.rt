@@ -71,7 +71,7 @@ pub fn places_wrong(
 
 // A word's numbers: its record without the mode, which never changes, the arrays and the place of the tone's key. In this order the
 // seven bytes are moved at once.
-#[derive(Drop)]
+#[derive(Clone, Copy)]
 pub struct Numbers {
     pub count: u8,
     pub tone: u8,

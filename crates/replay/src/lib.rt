@@ -15,7 +15,7 @@ use recording::{BeginAnswer, Begun, Press, SPACE};
 use rules::{Decision, Refusal, TypeAnswer, Word, WriteAnswer};
 
 // The words, those kept and restored, the keys that acted, undid and were appended, and all milliseconds.
-#[derive(Drop)]
+#[derive(Clone, Copy)]
 pub struct Summary {
     pub words: usize,
     pub kept: usize,
@@ -26,14 +26,14 @@ pub struct Summary {
     pub milliseconds: u32,
 }
 
-#[derive(Drop)]
+#[derive(Clone, Copy)]
 pub struct ReplayAnswer {
     pub answer: WriteAnswer,
     pub summary: Summary,
 }
 
 // One word: the bytes of its line, the decision, and what its keys did.
-#[derive(Drop)]
+#[derive(Clone, Copy)]
 pub struct WordDone {
     pub bytes: usize,
     pub decision: Decision,
@@ -42,7 +42,7 @@ pub struct WordDone {
     pub appended: u8,
 }
 
-#[derive(Drop)]
+#[derive(Clone, Copy)]
 pub enum WordAnswer {
     Committed(WordDone),
     Refused(Refusal),
@@ -54,7 +54,7 @@ pub const LINE: usize = 97;
 const NEWLINE: u8 = b'\n';
 
 // The words so far: the bytes of their lines, and the counts.
-#[derive(Drop)]
+#[derive(Clone, Copy)]
 struct Total {
     written: usize,
     words: usize,
@@ -66,13 +66,13 @@ struct Total {
 }
 
 // What a pass over the whole recording finds.
-#[derive(Drop)]
+#[derive(Clone, Copy)]
 struct Found {
     written: usize,
     summary: Summary,
 }
 
-#[derive(Drop)]
+#[derive(Clone, Copy)]
 enum Passage {
     Passed(Found),
     Broken(Refusal),

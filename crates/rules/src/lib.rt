@@ -10,7 +10,7 @@ ghost use Rattle.rules.specs.KeyRoles.{shaped};
 // Beside each letter stand the places among the keys, from 0, of the key that appended it and of the last that shaped it, and
 // beside the tone that of the last key that set it; NO_KEY where there is none.
 // Every field is public, so any record can be handed in; what is out of range is refused (refusal 8).
-#[derive(Drop)]
+#[derive(Clone, Copy)]
 pub struct Word {
     pub mode: u8,
     pub letters: [u16; Word::KEYS],
@@ -137,7 +137,7 @@ pub const TILDE: u8 = 4;
 pub const DOT: u8 = 5;
 
 // What a key is for, in its mode. The three families: tone with clear, vowel shape, stroke.
-#[derive(Drop)]
+#[derive(Clone, Copy)]
 pub enum Role {
     ToneRole(ToneKey),
     ShapeRole(ShapeKey),
@@ -145,14 +145,14 @@ pub enum Role {
     NoRole,
 }
 
-#[derive(Drop)]
+#[derive(Clone, Copy)]
 pub enum ToneKey {
     SetTone(u8),
     ClearTone,
 }
 
 // Telex's circumflex keys stand each for its own letter, VNI's for a, e and o; HornBreve is Telex's w.
-#[derive(Drop)]
+#[derive(Clone, Copy)]
 pub enum ShapeKey {
     CircumflexOn(u8),
     Circumflex,
@@ -162,14 +162,14 @@ pub enum ShapeKey {
 }
 
 // What a key did: acted, and as what; undone; or appended.
-#[derive(Drop)]
+#[derive(Clone, Copy)]
 pub enum Outcome {
     Acted(Act),
     Undone,
     Appended,
 }
 
-#[derive(Drop)]
+#[derive(Clone, Copy)]
 pub enum Act {
     Tone(u8),
     Shape(u8),
@@ -178,33 +178,33 @@ pub enum Act {
 }
 
 // The letters that a key put a shape on or took it off: none, one, or one and the next.
-#[derive(Drop)]
+#[derive(Clone, Copy)]
 pub enum Touched {
     NoLetter,
     OneLetter(usize),
     TwoLetters(usize),
 }
 
-#[derive(Drop)]
+#[derive(Clone, Copy)]
 pub enum Place {
     At(usize),
     Nowhere,
 }
 
-#[derive(Drop)]
+#[derive(Clone, Copy)]
 pub enum Decision {
     Keep,
     Restore,
 }
 
 // A refusal: its number in the table, and the number returned.
-#[derive(Drop)]
+#[derive(Clone, Copy)]
 pub struct Refusal {
     pub number: u8,
     pub value: usize,
 }
 
-#[derive(Drop)]
+#[derive(Clone, Copy)]
 pub enum StartAnswer {
     Started,
     Refused(Refusal),
@@ -216,7 +216,7 @@ pub struct Start {
     pub word: Word,
 }
 
-#[derive(Drop)]
+#[derive(Clone, Copy)]
 pub enum StepAnswer {
     Did(Outcome),
     Refused(Refusal),
@@ -228,7 +228,7 @@ pub struct Step {
     pub word: Word,
 }
 
-#[derive(Drop)]
+#[derive(Clone, Copy)]
 pub enum TypeAnswer {
     AllTyped,
     Refused(Refusal),
@@ -240,31 +240,31 @@ pub struct TypeAll {
     pub word: Word,
 }
 
-#[derive(Drop)]
+#[derive(Clone, Copy)]
 pub enum WriteAnswer {
     Wrote(usize),
     Refused(Refusal),
 }
 
-#[derive(Drop)]
+#[derive(Clone, Copy)]
 pub enum PlaceAnswer {
     Found(Place),
     Refused(Refusal),
 }
 
-#[derive(Drop)]
+#[derive(Clone, Copy)]
 pub enum VerdictAnswer {
     Judged(u8),
     Refused(Refusal),
 }
 
-#[derive(Drop)]
+#[derive(Clone, Copy)]
 pub enum DecisionAnswer {
     Decided(Decision),
     Refused(Refusal),
 }
 
-#[derive(Drop)]
+#[derive(Clone, Copy)]
 pub enum CommitAnswer {
     Granted,
     Refused(Refusal),

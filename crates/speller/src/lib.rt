@@ -17,7 +17,7 @@ use rules::{
 const MOST_KEYS: usize = 2 * Word::TEXT + 1;
 
 // A text as far as it is read: how many bytes and letters; the first tone, the place of the letter that carries it, and whether another letter carries one.
-#[derive(Drop)]
+#[derive(Clone, Copy)]
 struct ReadSoFar {
     at: usize,
     count: usize,

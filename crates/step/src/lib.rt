@@ -14,7 +14,7 @@ mod edits;
 mod keeping;
 
 // What a shape or stroke key did to the letters: nothing, a mark taken off, or a change; and on which of them.
-#[derive(Drop)]
+#[derive(Clone, Copy)]
 enum Edit {
     Nothing,
     Off(Touched),
@@ -22,7 +22,7 @@ enum Edit {
 }
 
 // A word's state beside its letters.
-#[derive(Drop)]
+#[derive(Clone, Copy)]
 struct Rest {
     count: u8,
     tone: u8,
@@ -30,7 +30,7 @@ struct Rest {
 }
 
 // What a key did, on which letters, and the state beside the letters then, before the key is kept and counted.
-#[derive(Drop)]
+#[derive(Clone, Copy)]
 struct Done {
     outcome: Outcome,
     touched: Touched,
@@ -199,7 +199,7 @@ fn key_does(letters: &mut [u16], rest: Rest, mode: u8, key: u8) -> Done
 }
 
 // How many keys acted, undid and were appended.
-#[derive(Drop)]
+#[derive(Clone, Copy)]
 struct Counts {
     acted: u8,
     undone: u8,

@@ -10,7 +10,7 @@ use lines::Program;
 use rules::WriteAnswer;
 
 // The program, and the line that has begun: its first bytes, as many as an answer can depend on, and how many they are.
-#[derive(Drop)]
+#[derive(Clone, Copy)]
 pub struct Begun {
     pub program: Program,
     pub line: [u8; 99],
@@ -18,7 +18,7 @@ pub struct Begun {
 }
 
 // After a block or a part of it: the state, the place in the block where the next byte stands, and the bytes written.
-#[derive(Drop)]
+#[derive(Clone, Copy)]
 pub struct Fed {
     pub state: Begun,
     pub taken: usize,
@@ -26,7 +26,7 @@ pub struct Fed {
 }
 
 // After one byte: how much of a line has begun, the place in the output behind what is written, and whether there was no room.
-#[derive(Drop)]
+#[derive(Clone, Copy)]
 struct AfterByte {
     length: usize,
     at: usize,

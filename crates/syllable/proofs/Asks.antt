@@ -16,6 +16,7 @@ use Rattle.rules.proofs.Bools.{if_so}
 and_so : (a b c d : Bool) → (T a → T b) → (T c → T d) → T (if_so a c) → T (if_so b d)
 and_so true true c d f g t = g t
 and_so true false c d f g t = absurd (f tt)
+and_so false b c d f g t = elim t [ ]
 
 -- letters agree with themselves, so a listed nucleus agrees with a listed one
 same_agrees : (v z : Letters) → T (same v z) → T (agrees v z)
@@ -24,6 +25,8 @@ same_agrees (x ∷ v) (y ∷ z) t =
     and_so (is x y) (agrees_at x y) (same v z) (agrees v z)
     (λ h. and_i (eqb x.base y.base) (eqb x.shape plain || eqb x.shape y.shape) (search and_l) (or_r (eqb x.shape plain) (eqb x.shape y.shape) (search and_r)))
     (same_agrees v z) t
+same_agrees [] (y ∷ z) t = elim t [ ]
+same_agrees (x ∷ v) [] t = elim t [ ]
 
 listed_agrees : (w v f : Letters) → T (listed w v f) → T (some_agrees w v f)
 unfolding listed some_agrees

@@ -90,7 +90,7 @@ fn plain(p: u64) -> u64
 }
 
 // Up to three nuclei; NONE where there are fewer.
-#[derive(Drop)]
+#[derive(Clone, Copy)]
 struct Three(u64, u64, u64);
 
 // The listed nuclei with these base letters, in the order of the list: so at most three are asked, and not all 55.

@@ -23,12 +23,14 @@ o_last (b ∷ c ∷ bs) = o_last (c ∷ bs)
 
 one_letter : (w : Letters) → T (o_last (bases w)) → 1 ≤ length w
 one_letter (x ∷ w) t = omega arith
+one_letter [] t = elim t [ ]
 
 o_last_law : (w : Letters) (n : ℕ) → length w ≡ n + 1 → T (o_last (bases w)) → last_place is_o w ≡ At n
 o_last_law (x ∷ []) zero e t = ap (or_this Nowhere) (is_true (is_o x.base) t)
 o_last_law (x ∷ []) (suc n) e t = absurd (omega arith)
 o_last_law (x ∷ z ∷ w) zero e t = absurd (omega arith)
 o_last_law (x ∷ z ∷ w) (suc n) e t = ap (λ (p : Place). or_this p (is_o x.base)) (o_last_law (z ∷ w) n (omega arith) t)
+o_last_law [] n e t = elim t [ ]
 
 module _ (w : Letters) (h : horns_o_alone w ≡ true) where
   alone : T (o_last (bases w))

@@ -1,0 +1,8 @@
+-- `classes::is_final` meets its contract: the mark in the class.
+use borrow.Author.Rules.{rules}
+use Rattle.classes.specs.LetterClasses.{class_of}
+use Rattle.classes.proofs.Entries.{marked}
+use Rattle.classes.proofs.is_final.Goals as goal
+
+pub returns : goal.returns
+returns c = (marked (class_of c.args.base) c.class.ensures).final

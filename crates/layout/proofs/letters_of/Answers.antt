@@ -1,0 +1,15 @@
+-- `layout::letters_of` meets its contract: the letters of no record, or those from their place.
+use mathlib.Core.Path.{ap, ◌∙◌}
+use borrow.Author.Rules.{rules}
+use Rattle.layout.specs.declared.RecordRead.{RecordRead}
+use Rattle.layout.proofs.Answers.{another_length, another_mark, letters_read}
+use Rattle.layout.proofs.letters_of.Goals as goal
+
+pub returns-then-buffer-ne-LENGTH : goal.returns-then-buffer-ne-LENGTH
+returns-then-buffer-ne-LENGTH c = ap (λ (r : RecordRead). r.word.letters) (another_length c.args.buffer.now c.if-buffer-ne-LENGTH.true)
+
+pub returns-then-buffer-gt1 : goal.returns-then-buffer-gt1
+returns-then-buffer-gt1 c = ap (λ (r : RecordRead). r.word.letters) (another_mark c.args.buffer.now c.if-buffer-ne-LENGTH.false c.if-buffer-gt1.true)
+
+pub returns : goal.returns
+returns c = c.letters_in.ensures ∙ letters_read c.args.buffer.now c.if-buffer-ne-LENGTH.false c.if-buffer-gt1.false

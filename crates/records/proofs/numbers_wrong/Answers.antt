@@ -1,0 +1,17 @@
+-- `records::numbers_wrong` meets its contract: the keys' own bound and the sum stand for the bounds of the other counts.
+use mathlib.Core.Path.{ap, ◌∙◌}
+use mathlib.Core.Bool.{Bool, not, ◌||◌}
+use Prim.Native.Nat.{◌+◌}
+use borrow.Author.Rules.{rules}
+use lib.Dec.{eqb, ltb}
+use Rattle.rules.specs.Letters.{dot}
+use Rattle.rules.specs.TheWord.{most_keys}
+use Rattle.records.proofs.Conditions.{counts_by_sum}
+use Rattle.records.proofs.numbers_wrong.Goals as goal
+
+pub returns : goal.returns
+returns c =
+    let args = c.args in
+    let n = args.n in
+    ap (λ (b : Bool). ltb most_keys n.typed || (ltb n.typed n.count || (not (eqb (n.acted + n.undone + n.appended) n.typed) || (ltb dot n.tone || not b)))) c.is_mode.ensures ∙
+    counts_by_sum args.mode n

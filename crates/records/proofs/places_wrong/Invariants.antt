@@ -1,0 +1,15 @@
+-- `records::places_wrong` meets its contract. The loop's invariant: what is asked about so far.
+use mathlib.Core.Path.{◌≡◌, refl, ap, ◌∙◌}
+use Prim.Native.Nat.{◌+◌, ◌-◌, ◌≤◌}
+use native.Mathlib.Omega.{arith}
+use lib.ListN.{length}
+use borrow.Author.Rules.{rules}
+use Rattle.rules.specs.TheWord.{most_keys}
+use Rattle.records.proofs.PlacesAsked.{wrong_before, one_more, asked_all}
+use Rattle.records.proofs.places_wrong.Given as goal
+
+abbrev pub invariant-loop-i : goal.invariant-loop-i
+invariant-loop-i l = (l.wrong ≡ wrong_before l.typed l.count l.by l.shaped l.i) × (l.nth ≡ l.i + 1) × (l.i ≤ most_keys)
+
+abbrev pub decreases-loop-i : goal.decreases-loop-i
+decreases-loop-i l = most_keys - l.i

@@ -1,0 +1,59 @@
+-- `syllable::nuclei::stands` meets its contract: for uơ; and else after qu, after no initial, and after any other.
+use mathlib.Core.Path.{◌≡◌, refl, sym, ap, ◌∙◌}
+use mathlib.Core.Bool.{Bool, true, false, not, ◌&&◌, ◌||◌, or-true, or-false}
+use Prim.Native.Nat.{ℕ, ◌%◌}
+use lib.Dec.{eqb, leb}
+use borrow.Author.Tests.{eq-eqb, ne_eqb}
+use Rattle.rules.specs.Letters.{Letters, elem, word, words}
+use Rattle.rules.specs.TakingApart.{implies, stands}
+use Rattle.syllable.specs.Numbers.{num, nums, Packs}
+use Rattle.rules.proofs.Bools.{and_true, and_false}
+use Rattle.syllable.proofs.PackedWords.{same_is, one_is, none_is, begins_o}
+use Rattle.syllable.proofs.nuclei.stands.Goals as goal
+
+module _ {p q : ℕ} {w v : Letters} (i : Packs p w) (n : Packs q v) where
+  abbrev yê : Bool
+  yê = elem q (nums (words "yê yêu"))
+
+  abbrev o : Bool
+  o = leb 4096 q && eqb (q % 512) (num (word "o"))
+
+  abbrev after_h : Bool
+  after_h = elem p (nums (words "h kh th"))
+
+  -- the rule, by whether the nucleus is uơ, whether there is no initial, and whether it is qu
+  rule : {uơ none qu : Bool} → uơ ≡ eqb q (num (word "uơ")) → none ≡ eqb p 0 → qu ≡ eqb p (num (word "qu")) → (implies yê (none || qu) && (not (qu && o) && implies uơ after_h)) ≡ stands w v
+  rule d e f j =
+      implies (one_is n (words "yê yêu") tt j) ((e ∙ none_is i) j || (f ∙ same_is i (word "qu") tt) j) &&
+      (not ((f ∙ same_is i (word "qu") tt) j && begins_o n j) && implies ((d ∙ same_is n (word "uơ") tt) j) (one_is i (words "h kh th") tt j))
+
+  is_uơ : q ≡ num (word "uơ") → after_h ≡ stands w v
+  is_uơ e =
+      ap (λ (b : Bool). not b && after_h) (and_false (eqb p (num (word "qu")))) ∙
+      ap (λ (k : ℕ). implies (elem k (nums (words "yê yêu"))) (eqb p 0 || eqb p (num (word "qu"))) && (not (eqb p (num (word "qu")) && (leb 4096 k && eqb (k % 512) (num (word "o")))) && after_h)) (sym e) ∙
+      rule (sym (eq-eqb q (num (word "uơ")) e)) refl refl
+
+  module _ (no : q ≡ num (word "uơ") → ⊥) where
+    not_uơ : false ≡ eqb q (num (word "uơ"))
+    not_uơ = sym (ne_eqb q (num (word "uơ")) no)
+
+    after_qu : p ≡ num (word "qu") → not o ≡ stands w v
+    after_qu e = and_true (not o) ∙ ap (λ (b : Bool). b && (not o && true)) (sym (or-true (not yê))) ∙ rule not_uơ (ap (λ (k : ℕ). eqb k 0) (sym e)) (sym (eq-eqb p (num (word "qu")) e))
+
+    after_none : (p ≡ num (word "qu") → ⊥) → p ≡ 0 → true ≡ stands w v
+    after_none m e = ap (λ (b : Bool). b && true) (sym (or-true (not yê))) ∙ rule not_uơ (sym (eq-eqb p 0 e)) (sym (ne_eqb p (num (word "qu")) m))
+
+    after_other : (p ≡ num (word "qu") → ⊥) → (p ≡ 0 → ⊥) → not yê ≡ stands w v
+    after_other m l = sym (or-false (not yê)) ∙ and_true _ ∙ rule not_uơ (sym (ne_eqb p 0 l)) (sym (ne_eqb p (num (word "qu")) m))
+
+pub returns-then-nuc-eq-UOW : goal.returns-then-nuc-eq-UOW
+returns-then-nuc-eq-UOW c w v i n = is_uơ i n c.if-nuc-eq-UOW.true
+
+pub returns-then-ini-eq-QU : goal.returns-then-ini-eq-QU
+returns-then-ini-eq-QU c w v i n = after_qu i n c.if-nuc-eq-UOW.false c.if-ini-eq-QU.true
+
+pub returns-then-ini-eq-NONE : goal.returns-then-ini-eq-NONE
+returns-then-ini-eq-NONE c w v i n = after_none i n c.if-nuc-eq-UOW.false c.if-ini-eq-QU.false c.if-ini-eq-NONE.true
+
+pub returns : goal.returns
+returns c w v i n = after_other i n c.if-nuc-eq-UOW.false c.if-ini-eq-QU.false c.if-ini-eq-NONE.false

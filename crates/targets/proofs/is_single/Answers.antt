@@ -1,0 +1,6 @@
+-- `targets::is_single` meets its contract.
+use borrow.Author.Rules.{rules}
+use Rattle.targets.proofs.is_single.Goals as goal
+
+pub returns : goal.returns
+returns c = simp c.base-b.ensures

@@ -1,0 +1,15 @@
+-- `targets::last_wanted` meets its contract. The loop's invariant: no letter is wanted from here on.
+use mathlib.Core.Path.{◌≡◌, sym, subst, ◌∙◌}
+use Prim.Native.Nat.{suc, ◌-◌, ◌≤◌}
+use native.Mathlib.Omega.{arith}
+use lib.ListN.{length}
+use borrow.Author.Rules.{rules}
+use Rattle.targets.specs.Places.{wanted}
+use Rattle.targets.proofs.Turns.{none_from, none_at_end, none_before, last_found}
+use Rattle.targets.proofs.last_wanted.Given as goal
+
+abbrev pub invariant-loop-i : goal.invariant-loop-i
+invariant-loop-i l = (l.i ≤ length l.letters) × none_from (wanted l.key) l.letters l.i
+
+abbrev pub decreases-loop-i : goal.decreases-loop-i
+decreases-loop-i l = l.i

@@ -1,0 +1,18 @@
+-- `targets::pair` meets its contract. The loop's invariant: from here on the same is found as from the start.
+use mathlib.Core.Path.{◌≡◌, sym, ◌∙◌}
+use mathlib.Core.Bool.{false}
+use mathlib.Core.List.{map}
+use Prim.Native.Nat.{◌-◌, ◌≤◌}
+use native.Mathlib.Omega.{arith}
+use lib.ListN.{length, drop}
+use borrow.Author.Rules.{rules}
+use Rattle.rules.specs.TheWord.{letter}
+use Rattle.targets.specs.Places.{pair_place}
+use Rattle.targets.proofs.Turns.{from, pair_start, pair_here, pair_on, pair_end}
+use Rattle.targets.proofs.pair.Given as goal
+
+abbrev pub invariant-loop-i : goal.invariant-loop-i
+invariant-loop-i l = (l.i ≤ length l.letters) × (from l.i (pair_place l.after_q (map letter (drop l.i l.letters))) ≡ pair_place false (map letter l.letters))
+
+abbrev pub decreases-loop-i : goal.decreases-loop-i
+decreases-loop-i l = length l.letters - l.i

@@ -30,7 +30,8 @@ fn column(text: &mut [u8], at: usize, part: &[u8], end: u8) -> usize
     requires { at + length part.now < length text.old }
     ensures { Appends text.old text.new at result (part.now ++ (end ∷ [])) }
 {
-    let next = at + bytes::copy(part, &mut text[at..]);
+    let next = at + part.len();
+    text[at..next].copy_from_slice(part);
     text[next] = end;
     next + 1
 }

@@ -8,6 +8,7 @@ use native.Mathlib.Omega.{arith}
 use lib.ListN.{length, take, drop, set, length-append, length-drop, length-map, take-append-drop}
 use lib.Seq.{length-take-le}
 use types.Run.{OneOf}
+use borrow.Enum.Refused.{Among, opened}
 use denote.Enum.Declared.{tag_of}
 use Rattle.rules.specs.Letters.{Letter, Letters}
 use Rattle.rules.specs.TheWord.{State, Done, acted, undone, appended, state_of, letter, number, at_front}
@@ -127,31 +128,31 @@ two_no f g (inl e) = f e
 two_no f g (inr e) = g e
 
 -- an edit that neither takes a mark off nor changes the letters is none
-pub no_edit : (e : Edit) → OneOf (0 ∷ 2 ∷ []) (tag_of Kinds.the_type e) → OneOf (0 ∷ 1 ∷ []) (tag_of Kinds.the_type e) → e ≡ Nothing
+pub no_edit : (e : Edit) → Among (0 ∷ 2 ∷ []) (tag_of Kinds.the_type e) → Among (0 ∷ 1 ∷ []) (tag_of Kinds.the_type e) → e ≡ Nothing
 no_edit Nothing p q = refl
-no_edit (Off g) p q = absurd (two_no (λ e. omega arith) (λ e. omega arith) p)
-no_edit (Change a g) p q = absurd (two_no (λ e. omega arith) (λ e. omega arith) q)
+no_edit (Off g) p q = absurd (two_no (λ e. omega arith) (λ e. omega arith) (opened p))
+no_edit (Change a g) p q = absurd (two_no (λ e. omega arith) (λ e. omega arith) (opened q))
 
 -- a key that touched neither one letter nor two touched none
-pub no_letter : (g : Touched) → OneOf (0 ∷ 2 ∷ []) (tag_of Touches.the_type g) → OneOf (0 ∷ 1 ∷ []) (tag_of Touches.the_type g) → g ≡ NoLetter
+pub no_letter : (g : Touched) → Among (0 ∷ 2 ∷ []) (tag_of Touches.the_type g) → Among (0 ∷ 1 ∷ []) (tag_of Touches.the_type g) → g ≡ NoLetter
 no_letter NoLetter p q = refl
-no_letter (OneLetter i) p q = absurd (two_no (λ e. omega arith) (λ e. omega arith) p)
-no_letter (TwoLetters i) p q = absurd (two_no (λ e. omega arith) (λ e. omega arith) q)
+no_letter (OneLetter i) p q = absurd (two_no (λ e. omega arith) (λ e. omega arith) (opened p))
+no_letter (TwoLetters i) p q = absurd (two_no (λ e. omega arith) (λ e. omega arith) (opened q))
 
 -- an outcome that is neither acted nor undone is appended
-pub neither : (n : Counts) (o : Outcome) → OneOf (1 ∷ 2 ∷ []) (tag_of Outcomes.the_type o) → OneOf (0 ∷ 2 ∷ []) (tag_of Outcomes.the_type o) → counted_in n Appended ≡ counted_in n o
-neither n (Acted a) p q = absurd (two_no (λ e. omega arith) (λ e. omega arith) p)
-neither n Undone p q = absurd (two_no (λ e. omega arith) (λ e. omega arith) q)
+pub neither : (n : Counts) (o : Outcome) → Among (1 ∷ 2 ∷ []) (tag_of Outcomes.the_type o) → Among (0 ∷ 2 ∷ []) (tag_of Outcomes.the_type o) → counted_in n Appended ≡ counted_in n o
+neither n (Acted a) p q = absurd (two_no (λ e. omega arith) (λ e. omega arith) (opened p))
+neither n Undone p q = absurd (two_no (λ e. omega arith) (λ e. omega arith) (opened q))
 neither n Appended p q = refl
 
 -- a key that was neither appended nor undid acted
-pub acts : (o : Outcome) (l : List ℕ) (count here : ℕ) → OneOf (0 ∷ 1 ∷ []) (tag_of Outcomes.the_type o) → OneOf (0 ∷ 2 ∷ []) (tag_of Outcomes.the_type o) → (here ≡ shaper_of o here) × (l ≡ by_then l count here o)
+pub acts : (o : Outcome) (l : List ℕ) (count here : ℕ) → Among (0 ∷ 1 ∷ []) (tag_of Outcomes.the_type o) → Among (0 ∷ 2 ∷ []) (tag_of Outcomes.the_type o) → (here ≡ shaper_of o here) × (l ≡ by_then l count here o)
 acts (Acted a) l count here p q = (refl, refl)
-acts Undone l count here p q = absurd (two_no (λ e. omega arith) (λ e. omega arith) q)
-acts Appended l count here p q = absurd (two_no (λ e. omega arith) (λ e. omega arith) p)
+acts Undone l count here p q = absurd (two_no (λ e. omega arith) (λ e. omega arith) (opened q))
+acts Appended l count here p q = absurd (two_no (λ e. omega arith) (λ e. omega arith) (opened p))
 
 -- and one that did not act appended a letter
-pub adds : (o : Outcome) (l : List ℕ) (count here : ℕ) → OneOf (1 ∷ 2 ∷ []) (tag_of Outcomes.the_type o) → set l count here ≡ by_then l count here o
-adds (Acted a) l count here p = absurd (two_no (λ e. omega arith) (λ e. omega arith) p)
+pub adds : (o : Outcome) (l : List ℕ) (count here : ℕ) → Among (1 ∷ 2 ∷ []) (tag_of Outcomes.the_type o) → set l count here ≡ by_then l count here o
+adds (Acted a) l count here p = absurd (two_no (λ e. omega arith) (λ e. omega arith) (opened p))
 adds Undone l count here p = refl
 adds Appended l count here p = refl

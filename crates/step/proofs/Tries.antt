@@ -5,6 +5,7 @@ use mathlib.Core.Logic.{◌⊎◌, inl, inr}
 use Prim.Native.Nat.{ℕ}
 use native.Mathlib.Omega.{arith}
 use types.Run.{OneOf}
+use borrow.Enum.Refused.{Among, opened}
 use denote.Enum.Declared.{tag_of}
 use Rattle.rules.specs.KeyRoles as Rules
 use Rattle.rules.specs.KeyRoles.{nothing, off, change, first}
@@ -35,7 +36,7 @@ not_none : (◌≡◌ {A = ℕ} 0 1) ⊎ (◌≡◌ {A = ℕ} 0 2) → ⊥
 not_none (inl z) = omega arith
 not_none (inr z) = omega arith
 
-pub only_first : (e f : Rules.Edit) {l : List ℕ} {r : Edit} {m : List ℕ} → Edits e l r m → OneOf (1 ∷ 2 ∷ []) (tag_of the_type r) → Edits (first e f) l r m
-only_first nothing f p o = absurd (not_none (subst (λ (k : Edit). OneOf (1 ∷ 2 ∷ []) (tag_of the_type k)) p.told o))
+pub only_first : (e f : Rules.Edit) {l : List ℕ} {r : Edit} {m : List ℕ} → Edits e l r m → Among (1 ∷ 2 ∷ []) (tag_of the_type r) → Edits (first e f) l r m
+only_first nothing f p o = absurd (not_none (subst (λ (k : Edit). OneOf (1 ∷ 2 ∷ []) (tag_of the_type k)) p.told (opened o)))
 only_first (off g w) f p o = p
 only_first (change a g w) f p o = p

@@ -15,13 +15,13 @@ use Rattle.commit.proofs.Answers.{text_long, text_made, decides, other_text, kep
 use Rattle.commit.proofs.judge.Statement.{statement}
 use Rattle.commit.proofs.judge.Tie as tie
 
-abbrev begun : tie.After-in-room → tie.Start
+abbrev begun : tie.After-in_room-n → tie.Start
 begun c = c.before.before.before.before.before.before.before
 
-long : (c : tie.After-in-room) → c.in-room.result ≡ length (shown (word_of (begun c).args.w).state)
-long c = text_long (begun c).args.w (begun c).requires c.in-room.result _ _ (lit≤ tt) c.in-room.ensures.0 c.in-room.ensures.1
+long : (c : tie.After-in_room-n) → c.in_room-n.result ≡ length (shown (word_of (begun c).args.w).state)
+long c = text_long (begun c).args.w (begun c).requires c.in_room-n.result _ _ (lit≤ tt) c.in_room-n.ensures.0 c.in_room-n.ensures.1
 
-abbrev made : tie.After-same → tie.After-in-room
+abbrev made : tie.After-same → tie.After-in_room-n
 made c = c.before.before.before.before
 
 -- the text is compared with the word's
@@ -29,13 +29,13 @@ compared : (c : tie.After-same) → same_bytes (begun (made c)).args.text.now (s
 compared c =
     let room = made c in
     let at = begun room in
-    ap (same_bytes at.args.text.now) (sym (text_made at.args.w at.pre room.in-room.result _ _ (lit≤ tt) room.in-room.ensures.0 room.in-room.ensures.1)) ∙ sym c.same.ensures
+    ap (same_bytes at.args.text.now) (sym (text_made at.args.w at.requires room.in_room-n.result _ _ (lit≤ tt) room.in_room-n.ensures.0 room.in_room-n.ensures.1)) ∙ sym c.same.ensures
 
-abbrev equal : tie.After-decided → tie.Else1
+abbrev equal : tie.After-decided-decision → tie.Else-not-same
 equal c = c.before.before.before.before
 
-by_word : (c : tie.After-decided) → c.decided.result ≡ decision (word_of (begun (made (equal c).before)).args.w)
-by_word c = let at = begun (made (equal c).before) in decides at.args.w at.pre _ _ c.before.verdict.ensures c.decided.ensures
+by_word : (c : tie.After-decided-decision) → c.decided-decision.result ≡ decision (word_of (begun (made (equal c).before)).args.w)
+by_word c = let at = begun (made (equal c).before) in decides at.args.w at.requires _ _ c.before.verdict-verdict.ensures c.decided-decision.ensures
 
 pub judge_spec : {M : Type 1} → statement M
 judge_spec =
@@ -55,14 +55,14 @@ judge_spec =
     (λ c.
     let room = c.before.before in
     let at = begun room in
-    let all : length room.in-room.new.1.1.0 ≡ 96 = search rules in
-    omega (arith, long room, all, text_fits at.args.w at.pre))
+    let all : length room.in_room-n.new.out ≡ 96 = search rules in
+    omega (arith, long room, all, text_fits at.args.w at.requires))
     (λ c κs. search rules)
     (λ c κs. search rules)
     (λ c.
     let same = c.before.before in
     let at = begun (made same) in
-    c.refused.ensures ∙ other_text at.args.w at.args.text.now (compared same ∙ not-true _ c.before.if1.true))
+    c.refused.ensures ∙ other_text at.args.w at.args.text.now (compared same ∙ not-true _ c.before.if-not-same.true))
     (λ c κs. search rules)
     (λ c κs. search rules)
     (λ c. search rules)
@@ -71,10 +71,10 @@ judge_spec =
     let no = equal done in
     let room = made no.before in
     let at = begun room in
-    kept at.args.w at.args.text.now room.in-room.result (compared no.before ∙ not-false _ no.if1.left) (long room) (sym (by_word done) ∙ c.enum_told.given.1))
+    kept at.args.w at.args.text.now room.in_room-n.result (compared no.before ∙ not-false _ no.if-not-same.left) (long room) (sym (by_word done) ∙ c.in-Keep.is))
     (λ c. search rules)
     (λ c.
     let done = c.before.before in
     let no = equal done in
     let at = begun (made no.before) in
-    restored at.args.w at.args.text.now (compared no.before ∙ not-false _ no.if1.left) (sym (by_word done) ∙ c.enum-told2.given.1)))
+    restored at.args.w at.args.text.now (compared no.before ∙ not-false _ no.if-not-same.left) (sym (by_word done) ∙ c.in_default.is)))

@@ -12,8 +12,8 @@ use Rattle.commit.proofs.rule.Statement.{statement}
 use Rattle.commit.proofs.rule.Tie as tie
 
 -- what the test of the mode says
-is_mode_law : (c : tie.Else1) → not (is_mode c.before.before.before.before.args.mode) ≡ false
-is_mode_law c = ap not (sym c.before.is-mode.ensures) ∙ c.if1.false
+is_mode_law : (c : tie.Else-not-is_mode) → not (is_mode c.before.before.before.before.args.mode) ≡ false
+is_mode_law c = ap not (sym c.before.is_mode.ensures) ∙ c.if-not-is_mode.false
 
 pub rule_spec : {M : Type 1} → statement M
 rule_spec =
@@ -24,18 +24,18 @@ rule_spec =
     (λ c.
     let told = c.before.before in
     let args = told.before.before.before.args in
-    c.refused.ensures ∙ no_mode args.mode args.keys.now args.text.now (ap not (sym told.is-mode.ensures) ∙ c.before.if1.true))
+    c.refused.ensures ∙ no_mode args.mode args.keys.now args.text.now (ap not (sym told.is_mode.ensures) ∙ c.before.if-not-is_mode.true))
     (λ c κs. search rules)
     (λ c.
     let no = c.before.before in
     let args = no.before.before.before.before.args in
-    c.refused2.ensures ∙ too_many args.mode args.keys.now args.text.now (is_mode_law no) c.before.if2.true)
+    c.refused-then-keys-gt-KEYS.ensures ∙ too_many args.mode args.keys.now args.text.now (is_mode_law no) c.before.if-keys-gt-KEYS.true)
     (λ c κs. search rules)
     (λ c.
     let few = c.before.before in
     let no = few.before in
     let args = no.before.before.before.before.args in
-    c.refused3.ensures ∙ too_long args.mode args.keys.now args.text.now (is_mode_law no) few.if2.false c.before.if3.true)
+    c.refused-then-text-gt-TEXT.ensures ∙ too_long args.mode args.keys.now args.text.now (is_mode_law no) few.if-keys-gt-KEYS.false c.before.if-text-gt-TEXT.true)
     (λ c κs. search rules)
     (λ c. search rules)
     (λ c.
@@ -44,20 +44,20 @@ rule_spec =
     let few = short.before in
     let no = few.before in
     let args = no.before.before.before.before.args in
-    not_typed args.mode args.keys.now args.text.now (is_mode_law no) few.if2.false short.if3.false _
-    (sym (ap (λ (t : TypeAll). t.answer) typed_all.type-all.ensures) ∙ c.before.answer.given.1))
+    not_typed args.mode args.keys.now args.text.now (is_mode_law no) few.if-keys-gt-KEYS.false short.if-text-gt-TEXT.false _
+    (sym (ap (λ (t : TypeAll). t.answer) typed_all.type_all-all.ensures) ∙ c.before.in-Refused.is))
     (λ c. search rules)
     (λ c κs.
     let typed_all = c.before.before in
     let args = typed_all.before.before.before.before.before.before.before.args in
-    let e = typed_all.type-all.ensures in
-    ap (λ (t : TypeAll). out_of_range t.word) e ∙ typed_in_range args.mode args.keys.now (sym (ap (λ (t : TypeAll). t.answer) e) ∙ c.enum_told.given.1))
+    let e = typed_all.type_all-all.ensures in
+    ap (λ (t : TypeAll). out_of_range t.word) e ∙ typed_in_range args.mode args.keys.now (sym (ap (λ (t : TypeAll). t.answer) e) ∙ c.in_default.is))
     (λ c.
     let typed_all = c.before.before.before in
     let short = typed_all.before in
     let few = short.before in
     let no = few.before in
     let args = no.before.before.before.before.args in
-    let e = typed_all.type-all.ensures in
+    let e = typed_all.type_all-all.ensures in
     c.judge.ensures ∙ ap (λ (t : TypeAll). judged (word_of t.word) args.text.now) e ∙
-    ruled args.mode args.keys.now args.text.now (is_mode_law no) few.if2.false short.if3.false (sym (ap (λ (t : TypeAll). t.answer) e) ∙ c.before.enum_told.given.1)))
+    ruled args.mode args.keys.now args.text.now (is_mode_law no) few.if-keys-gt-KEYS.false short.if-text-gt-TEXT.false (sym (ap (λ (t : TypeAll). t.answer) e) ∙ c.before.in_default.is)))

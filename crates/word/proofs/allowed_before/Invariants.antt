@@ -1,0 +1,16 @@
+-- `word::allowed_before` meets its contract. The loop's invariant: those passed and those from here on are all.
+use mathlib.Core.Path.{◌≡◌, sym, ◌∙◌}
+use Prim.Native.Nat.{◌-◌}
+use native.Mathlib.Omega.{arith}
+use lib.ListN.{length}
+use borrow.Author.Rules.{rules}
+use borrow.Author.Tests.{not-true, not-false}
+use Rattle.rules.specs.Refusals.{allowed_before}
+use Rattle.word.proofs.Lists.{counted, stops, goes, ends}
+use Rattle.word.proofs.allowed_before.Given as goal
+
+abbrev pub invariant-loop-i : goal.invariant-loop-i
+invariant-loop-i l = counted l.mode l.keys l.i ≡ allowed_before l.mode l.keys
+
+abbrev pub decreases-loop-i : goal.decreases-loop-i
+decreases-loop-i l = length l.keys - l.i

@@ -1,0 +1,19 @@
+-- `word::typed_all` meets its contract. The loop's invariant: the bytes are those of the word with the keys passed, typed.
+use mathlib.Core.Path.{◌≡◌, refl, ap, ◌∙◌}
+use Prim.Native.Nat.{◌-◌, ◌≤◌}
+use native.Mathlib.Omega.{arith}
+use lib.ListN.{length, take, replicate}
+use borrow.Author.Rules.{rules}
+use Rattle.rules.specs.TheWord.{new_word, holding}
+use Rattle.rules.specs.WhatComesBack.{typed}
+use Rattle.rules.specs.declared.Start.{Start}
+use Rattle.layout.specs.Places.{as_bytes}
+use Rattle.layout.proofs.Answers.{written}
+use Rattle.word.proofs.Lists.{long_so_far, one_more_in, all_typed, started}
+use Rattle.word.proofs.typed_all.Given as goal
+
+abbrev pub invariant-loop-i : goal.invariant-loop-i
+invariant-loop-i l = (l.i ≤ length l.keys) × (l.bytes ≡ as_bytes (holding (new_word l.mode) (typed l.mode (take l.i l.keys))))
+
+abbrev pub decreases-loop-i : goal.decreases-loop-i
+decreases-loop-i l = length l.keys - l.i

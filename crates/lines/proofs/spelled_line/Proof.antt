@@ -9,11 +9,11 @@ use Rattle.lines.proofs.spelled_line.Statement.{statement}
 use Rattle.lines.proofs.spelled_line.Tie as tie
 
 -- what is known in each arm
-is_refused : (c : tie.After-answer) → Refuses c.before.before.before.before.before.before.before.before.args.mode c.before.before.before.before.before.before.before.before.args.syllable.now c.before.before.before.before.before.before.before.before.args.text.now c.before.before.before.before.before.before.before.before.requires c.answer.given.0.0 c.before.before.before.before.spell.new.1.1.0
-is_refused c = refuses c.before.before.before.before.before.before.before.before.args.mode c.before.before.before.before.before.before.before.before.args.syllable.now c.before.before.before.before.before.before.before.before.args.text.now c.before.before.before.before.before.before.before.before.requires c.before.before.before.before.spell.result _ c.before.before.before.before.spell.ensures.0 c.before.before.before.before.spell.ensures.1 _ c.answer.given.1
+is_refused : (c : tie.In-Refused-2) → Refuses c.before.before.before.before.before.before.before.before.args.mode c.before.before.before.before.before.before.before.before.args.syllable.now c.before.before.before.before.before.before.before.before.args.text.now c.before.before.before.before.before.before.before.before.requires c.in-Refused.refusal c.before.before.before.before.spell-answer.new.out
+is_refused c = refuses c.before.before.before.before.before.before.before.before.args.mode c.before.before.before.before.before.before.before.before.args.syllable.now c.before.before.before.before.before.before.before.before.args.text.now c.before.before.before.before.before.before.before.before.requires c.before.before.before.before.spell-answer.result _ c.before.before.before.before.spell-answer.ensures.0 c.before.before.before.before.spell-answer.ensures.1 _ c.in-Refused.is
 
-is_spelled : (c : tie.After-answer2) → Spells c.before.before.before.before.before.before.before.before.args.mode c.before.before.before.before.before.before.before.before.args.syllable.now c.before.before.before.before.before.before.before.before.args.text.now c.before.before.before.before.before.before.before.before.requires c.answer2.given.0.0 c.before.before.before.before.spell.new.1.1.0
-is_spelled c = spelled c.before.before.before.before.before.before.before.before.args.mode c.before.before.before.before.before.before.before.before.args.syllable.now c.before.before.before.before.before.before.before.before.args.text.now c.before.before.before.before.before.before.before.before.requires c.before.before.before.before.spell.result _ c.before.before.before.before.spell.ensures.0 c.before.before.before.before.spell.ensures.1 _ c.answer2.given.1
+is_spelled : (c : tie.In-Wrote-2) → Spells c.before.before.before.before.before.before.before.before.args.mode c.before.before.before.before.before.before.before.before.args.syllable.now c.before.before.before.before.before.before.before.before.args.text.now c.before.before.before.before.before.before.before.before.requires c.in-Wrote.n c.before.before.before.before.spell-answer.new.out
+is_spelled c = spelled c.before.before.before.before.before.before.before.before.args.mode c.before.before.before.before.before.before.before.before.args.syllable.now c.before.before.before.before.before.before.before.before.args.text.now c.before.before.before.before.before.before.before.before.requires c.before.before.before.before.spell-answer.result _ c.before.before.before.before.spell-answer.ensures.0 c.before.before.before.before.spell-answer.ensures.1 _ c.in-Wrote.is
 
 pub spelled_line_spec : {M : Type 1} → statement M
 spelled_line_spec =
@@ -29,6 +29,6 @@ spelled_line_spec =
     (λ c. omega (arith, (is_spelled c.before).inside))
     (λ c. record { fits = omega (arith, (is_spelled c.before).few) })
     (λ c. search rules)
-    (λ c. let q = is_refused c.before.before.before.before.before in as_before q.unchanged (as_part q.line c.before.before.refused-line.ensures))
+    (λ c. let q = is_refused c.before.before.before.before.before in as_before q.unchanged (as_part q.line c.before.before.refused_line.ensures))
     (λ c. search rules)
     (λ c. (is_spelled c.before).line))

@@ -13,7 +13,7 @@ use Rattle.lines.proofs.word_columns.Tie as tie
 
 -- the array of the keys, as long as any
 so_long : (c : tie.Start) → length c.args.w.keys ≡ 32
-so_long c = search (rules, c.well-formed)
+so_long c = search (rules, c.well_formed)
 
 pub word_columns_spec : {M : Type 1} → statement M
 word_columns_spec =
@@ -38,8 +38,8 @@ word_columns_spec =
     let made = c.before.before.before.before.before.before.before.before.before.before in
     let at = made.before.before.before.before.before.before.before in
     let w = at.args.w in
-    let long : length made.in-room.new.1.1.0 ≡ 96 = search rules in
-    omega (arith, text_long w at.requires.1 made.in-room.result _ (lit≤ tt) made.in-room.ensures.0, long, text_fits w at.requires.1))
+    let long : length made.in_room-n.new.out ≡ 96 = search rules in
+    omega (arith, text_long w at.requires.1 made.in_room-n.result _ (lit≤ tt) made.in_room-n.ensures.0, long, text_fits w at.requires.1))
     (λ c. search rules)
     (λ c. search rules)
     (λ c.
@@ -50,8 +50,8 @@ word_columns_spec =
     let made = found.before.before.before in
     let at = made.before.before.before.before.before.before.before in
     let w = at.args.w in
-    let text = text_made w at.requires.1 made.in-room.result _ (lit≤ tt) made.in-room.ensures.0 _ made.in-room.ensures.1 in
-    (at.requires.0, omega (arith, ap length text, text_fits w at.requires.1), simp length-take (omega (arith, few_typed w at.requires.1)), place_fits w at.requires.1 _ (found.tone_place.ensures ∙ its_place w at.requires.1)))
+    let text = text_made w at.requires.1 made.in_room-n.result _ (lit≤ tt) made.in_room-n.ensures.0 _ made.in_room-n.ensures.1 in
+    (at.requires.0, omega (arith, ap length text, text_fits w at.requires.1), simp length-take (omega (arith, few_typed w at.requires.1)), place_fits w at.requires.1 _ (found.tone_place-place.ensures ∙ its_place w at.requires.1)))
     (λ c. search rules)
     (λ c.
     let decided = c.before.before.before.before.before.before.before.before.before.before in
@@ -60,7 +60,7 @@ word_columns_spec =
     let made = judged.before.before in
     let at = made.before.before.before.before.before.before.before in
     let w = at.args.w in
-    let text = text_made w at.requires.1 made.in-room.result _ (lit≤ tt) made.in-room.ensures.0 _ made.in-room.ensures.1 in
+    let text = text_made w at.requires.1 made.in_room-n.result _ (lit≤ tt) made.in_room-n.ensures.0 _ made.in_room-n.ensures.1 in
     as_part
-    (its_columns w at.requires.1 _ _ _ _ at.args.end text (judged.verdict.ensures ∙ its_verdict w at.requires.1) (found.tone_place.ensures ∙ its_place w at.requires.1) (decided.decided.ensures ∙ its_decision w at.requires.1 _ judged.verdict.ensures))
-    c.before.before.six-columns.ensures))
+    (its_columns w at.requires.1 _ _ _ _ at.args.end text (judged.verdict-verdict.ensures ∙ its_verdict w at.requires.1) (found.tone_place-place.ensures ∙ its_place w at.requires.1) (decided.decided-decision.ensures ∙ its_decision w at.requires.1 _ judged.verdict-verdict.ensures))
+    c.before.before.six_columns.ensures))

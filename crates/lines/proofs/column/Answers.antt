@@ -1,9 +1,7 @@
--- `lines::column` meets its contract, by that of `bytes::copy` and one write.
-use borrow.Author.Rules.{rules}
+-- `lines::column` meets its contract, by that of `copy_from_slice` and one write.
+use native.Mathlib.Omega.{arith}
 use Rattle.lines.proofs.Columns.{column_put}
 use Rattle.lines.proofs.column.Goals as goal
 
 pub returns : goal.returns
-returns c =
-    let args = c.args in
-    column_put args.text.now args.part.now args.at args.end c.requires c.copy.result _ c.copy.ensures.0 c.copy.ensures.1
+returns c = column_put c.args.text.now c.args.part.now c.args.at c.args.end c.requires _ _ c.copy_from_slice.ensures.after (omega arith)

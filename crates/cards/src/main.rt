@@ -2,100 +2,99 @@
 // decision, the mark, the number of letters, and how many keys acted, undid and were appended. Of a refused line, the refusal.
 ghost use Rattle.std.specs.Prelude.{◌≤◌, length};
 
-use libc::{STDIN_FILENO, STDOUT_FILENO};
 use rules::{
     Decision, DecisionAnswer, Place, PlaceAnswer, TypeAnswer, VerdictAnswer, Word, WriteAnswer,
 };
+use std::io;
+use std::io::{ErrorKind, Read};
+use std::process::ExitCode;
 
-fn put(text: &[u8]) {
-    io::write_all(STDOUT_FILENO, text);
+// The exit status where nobody reads the answers any more: a shell's for a program that SIGPIPE ended. The signal itself is
+// passed over before main begins, and the write fails.
+const UNREAD: u8 = 141;
+
+fn put(rt: &HostRuntime, text: &[u8]) -> io::Result<()> {
+    rt.stdout().write_all(text)
 }
 
 // A space and a number in decimal.
-fn put_number(n: usize) {
-    put(b" ");
-    io::print_decimal(STDOUT_FILENO, n as u64);
+fn put_number(rt: &HostRuntime, n: usize) -> io::Result<()> {
+    put(rt, b" ")?;
+    rt.stdout().print(n as u64)
 }
 
 // A text, or a hyphen where it is empty.
-fn put_text(text: &[u8]) {
+fn put_text(rt: &HostRuntime, text: &[u8]) -> io::Result<()> {
     if text.len() == 0 {
-        put(b"-");
-        return;
+        return put(rt, b"-");
     }
-    put(text);
+    put(rt, text)
 }
 
-fn put_refused(number: u8, value: usize) {
-    put(b"!");
-    put_number(number as usize);
-    put_number(value);
+fn put_refused(rt: &HostRuntime, number: u8, value: usize) -> io::Result<()> {
+    put(rt, b"!")?;
+    put_number(rt, number as usize)?;
+    put_number(rt, value)
 }
 
 // The shown text, and what commit hands back for it.
-fn put_texts(mode: u8, keys: &[u8], w: Word) {
+fn put_texts(rt: &HostRuntime, mode: u8, keys: &[u8], w: Word) -> io::Result<()> {
     let mut shown = [0; Word::TEXT];
     let WriteAnswer::Wrote(n) = show::show(w, &mut shown) else {
-        put(b"!");
-        return;
+        return put(rt, b"!");
     };
     let text = &shown[0..n];
-    put_text(text);
-    put(b" ");
-    put_text(commit::commit(mode, keys, text));
+    put_text(rt, text)?;
+    put(rt, b" ")?;
+    put_text(rt, commit::commit(mode, keys, text))
 }
 
-fn put_verdict(w: Word) {
+fn put_verdict(rt: &HostRuntime, w: Word) -> io::Result<()> {
     let VerdictAnswer::Judged(verdict) = word::verdict(w) else {
-        put(b"!");
-        return;
+        return put(rt, b"!");
     };
-    put_number(verdict as usize);
+    put_number(rt, verdict as usize)
 }
 
-fn put_place(w: Word) {
+fn put_place(rt: &HostRuntime, w: Word) -> io::Result<()> {
     let PlaceAnswer::Found(place) = word::place(w) else {
-        put(b"!");
-        return;
+        return put(rt, b"!");
     };
     let Place::At(n) = place else {
-        put(b" -");
-        return;
+        return put(rt, b" -");
     };
-    put_number(n);
+    put_number(rt, n)
 }
 
-fn put_decision(w: Word) {
+fn put_decision(rt: &HostRuntime, w: Word) -> io::Result<()> {
     let DecisionAnswer::Decided(decision) = word::decision(w) else {
-        put(b"!");
-        return;
+        return put(rt, b"!");
     };
     match decision {
-        Decision::Keep => put(b" K"),
-        Decision::Restore => put(b" R"),
+        Decision::Keep => put(rt, b" K"),
+        Decision::Restore => put(rt, b" R"),
     }
 }
 
-fn put_mark(w: Word) {
+fn put_mark(rt: &HostRuntime, w: Word) -> io::Result<()> {
     if w.closed {
-        put(b" closed");
-        return;
+        return put(rt, b" closed");
     }
-    put(b" open");
+    put(rt, b" open")
 }
 
 // No word that was typed is refused; if one were, a `!` in its line would say so.
-fn put_word(mode: u8, keys: &[u8], w: Word) {
-    put_texts(mode, keys, w);
-    put_verdict(w);
-    put_number(w.tone as usize);
-    put_place(w);
-    put_decision(w);
-    put_mark(w);
-    put_number(w.count as usize);
-    put_number(w.acted as usize);
-    put_number(w.undone as usize);
-    put_number(w.appended as usize);
+fn put_word(rt: &HostRuntime, mode: u8, keys: &[u8], w: Word) -> io::Result<()> {
+    put_texts(rt, mode, keys, w)?;
+    put_verdict(rt, w)?;
+    put_number(rt, w.tone as usize)?;
+    put_place(rt, w)?;
+    put_decision(rt, w)?;
+    put_mark(rt, w)?;
+    put_number(rt, w.count as usize)?;
+    put_number(rt, w.acted as usize)?;
+    put_number(rt, w.undone as usize)?;
+    put_number(rt, w.appended as usize)
 }
 
 // The keys one after the other, from a new word.
@@ -111,35 +110,30 @@ fn stepped(mode: u8, keys: &[u8]) -> Word {
     w
 }
 
-fn answer(mode: u8, keys: &[u8]) {
+fn answer(rt: &HostRuntime, mode: u8, keys: &[u8]) -> io::Result<()> {
     let all = word::type_all(mode, keys);
     let typed = all.answer;
     if let TypeAnswer::Refused(r) = typed {
-        put_refused(r.number, r.value);
-        return;
+        return put_refused(rt, r.number, r.value);
     }
-    put_word(mode, keys, stepped(mode, keys));
+    put_word(rt, mode, keys, stepped(mode, keys))
 }
 
 // A line is T or V, a space, keys.
-fn answer_line(line: &[u8]) {
+fn answer_line(rt: &HostRuntime, line: &[u8]) -> io::Result<()> {
     if line.len() < 2 {
-        put_refused(1, 0);
-        return;
+        return put_refused(rt, 1, 0);
     }
     if line[1] != b' ' {
-        put_refused(1, 0);
-        return;
+        return put_refused(rt, 1, 0);
     }
     if line[0] == b'T' {
-        answer(Word::TELEX, &line[2..]);
-        return;
+        return answer(rt, Word::TELEX, &line[2..]);
     }
     if line[0] == b'V' {
-        answer(Word::VNI, &line[2..]);
-        return;
+        return answer(rt, Word::VNI, &line[2..]);
     }
-    put_refused(1, 0);
+    put_refused(rt, 1, 0)
 }
 
 // Where the line that starts here ends.
@@ -157,19 +151,43 @@ fn line_end(text: &[u8], from: usize) -> usize
     i
 }
 
-fn answer_lines(text: &[u8]) {
+fn answer_lines(rt: &HostRuntime, text: &[u8]) -> io::Result<()> {
     let mut at = 0;
     while at < text.len() {
         let end = line_end(text, at);
-        answer_line(&text[at..end]);
-        put(b"\n");
+        answer_line(rt, &text[at..end])?;
+        put(rt, b"\n")?;
         at = end + 1;
     }
+    Ok(())
+}
+
+// Reads until the buffer is full, the input ends or a read fails, and returns how many bytes it put at the start of the buffer.
+fn read_full(rt: &HostRuntime, buffer: &mut [u8]) -> usize
+    ensures { result ≤ length buffer.new }
+{
+    let mut done = 0;
+    while done < buffer.len() {
+        let Ok(n) = rt.stdin().read(&mut buffer[done..]) else {
+            break;
+        };
+        if n == 0 {
+            break;
+        }
+        done += n;
+    }
+    done
 }
 
 // The input fills one buffer at most.
-fn main() {
-    let mut buffer = io::large_buffer();
-    let n = io::read_full(STDIN_FILENO, &mut buffer);
-    answer_lines(&buffer[..n]);
+fn main(rt: HostRuntime) -> ExitCode {
+    let mut buffer = [0; 65536];
+    let n = read_full(&rt, &mut buffer);
+    let Err(e) = answer_lines(&rt, &buffer[..n]) else {
+        return ExitCode::SUCCESS;
+    };
+    if e.kind() == ErrorKind::BrokenPipe {
+        return ExitCode::from(UNREAD);
+    }
+    ExitCode::FAILURE
 }

@@ -1,6 +1,7 @@
 // The drill: each line of standard input answered on standard output, behind a header.
 use lines::Program;
+use std::process::ExitCode;
 
-fn main() {
-    filter::run(Program::Drill);
+fn main(rt: HostRuntime) -> ExitCode {
+    filter::run(&rt, Program::Drill)
 }

@@ -1,4 +1,4 @@
-// What the box links. Each call takes numbers, and lent bytes and numbers, alone: no struct, enum or bool crosses.
+// The calls that the box links, as felcantuzza_c exports them. Each takes numbers, and lent bytes and numbers, alone: no struct, enum or bool crosses.
 // It returns 0 where it is answered, else the refusal's number; `value` then holds the answer's number, or the refusal's, and is always written.
 // A word's record is lent as the 169 bytes of crate `layout`; bytes that are no record are refusal 8 with 0. A refused call leaves every lent byte as it was, and every number that is lent for a recording.
 ghost use Rattle.std.specs.Prelude.{◌≡◌};
@@ -77,8 +77,7 @@ fn decision_number(decision: Decision) -> usize
 }
 
 // A new word in a mode. Refusals: 8, 1.
-#[unsafe(no_mangle)]
-pub extern "C" fn fz_start(mode: u8, lent: &mut [u8], value: &mut usize) -> u8
+pub fn fz_start(mode: u8, lent: &mut [u8], value: &mut usize) -> u8
     ensures { (result ≡ Calls.returned (Calls.start mode lent.old)) × (value.new ≡ Calls.value_by Calls.only_one (Calls.start mode lent.old)) × (lent.new ≡ Calls.start_word mode lent.old) }
 {
     if lent.len() != layout::LENGTH {
@@ -97,8 +96,7 @@ pub extern "C" fn fz_start(mode: u8, lent: &mut [u8], value: &mut usize) -> u8
 }
 
 // A key typed; the value is what it did. Refusals: 8, 2, 3.
-#[unsafe(no_mangle)]
-pub extern "C" fn fz_type(lent: &mut [u8], key: u8, value: &mut usize) -> u8
+pub fn fz_type(lent: &mut [u8], key: u8, value: &mut usize) -> u8
     ensures { (result ≡ Calls.returned (Calls.type lent.old key)) × (value.new ≡ Calls.value_by Calls.in_one (Calls.type lent.old key)) × (lent.new ≡ Calls.type_word lent.old key) }
 {
     let answer = step::step_at(lent, key);
@@ -142,8 +140,7 @@ fn type_and_show_short(
 
 // A key typed and the word shown, with one range check; `did` is what the key did, as fz_type's value, and 0 where the call is refused;
 // the value is the bytes written. Refusals: 8, 2, 3, 4. The key is typed where the bytes lie, and of the new word no more is read than is shown.
-#[unsafe(no_mangle)]
-pub extern "C" fn fz_type_and_show(
+pub fn fz_type_and_show(
     lent: &mut [u8],
     key: u8,
     out: &mut [u8],
@@ -173,8 +170,7 @@ pub extern "C" fn fz_type_and_show(
 }
 
 // The word shown; the value is the bytes written. Refusals: 8, 4.
-#[unsafe(no_mangle)]
-pub extern "C" fn fz_show(lent: &[u8], out: &mut [u8], value: &mut usize) -> u8
+pub fn fz_show(lent: &[u8], out: &mut [u8], value: &mut usize) -> u8
     ensures { (result ≡ Calls.returned (Calls.show lent.now out.old)) × (value.new ≡ Calls.value_by Calls.only_one (Calls.show lent.now out.old)) × (out.new ≡ Calls.show_output lent.now out.old) }
 {
     let reading = layout::read(lent);
@@ -202,8 +198,7 @@ pub extern "C" fn fz_show(lent: &[u8], out: &mut [u8], value: &mut usize) -> u8
 }
 
 // The verdict on the word. Refusals: 8.
-#[unsafe(no_mangle)]
-pub extern "C" fn fz_verdict(lent: &[u8], value: &mut usize) -> u8
+pub fn fz_verdict(lent: &[u8], value: &mut usize) -> u8
     ensures { (result ≡ Calls.returned (Calls.verdict lent.now)) × (value.new ≡ Calls.value_by Calls.only_one (Calls.verdict lent.now)) }
 {
     let reading = layout::read(lent);
@@ -218,8 +213,7 @@ pub extern "C" fn fz_verdict(lent: &[u8], value: &mut usize) -> u8
 }
 
 // The place of the tone, 255 where there is none. Refusals: 8.
-#[unsafe(no_mangle)]
-pub extern "C" fn fz_place(lent: &[u8], value: &mut usize) -> u8
+pub fn fz_place(lent: &[u8], value: &mut usize) -> u8
     ensures { (result ≡ Calls.returned (Calls.place lent.now)) × (value.new ≡ Calls.value_by Calls.placed (Calls.place lent.now)) }
 {
     let reading = layout::read(lent);
@@ -234,8 +228,7 @@ pub extern "C" fn fz_place(lent: &[u8], value: &mut usize) -> u8
 }
 
 // The decision on the word: 0 keep, 1 restore. Refusals: 8.
-#[unsafe(no_mangle)]
-pub extern "C" fn fz_decision(lent: &[u8], value: &mut usize) -> u8
+pub fn fz_decision(lent: &[u8], value: &mut usize) -> u8
     ensures { (result ≡ Calls.returned (Calls.decision lent.now)) × (value.new ≡ Calls.value_by Calls.only_one (Calls.decision lent.now)) }
 {
     let reading = layout::read(lent);
@@ -250,8 +243,7 @@ pub extern "C" fn fz_decision(lent: &[u8], value: &mut usize) -> u8
 }
 
 // Commit and its question in one: 0 the text is kept, 1 the keys are handed back. Refusals: 1, 2 (32), 2 (96), 3, 5.
-#[unsafe(no_mangle)]
-pub extern "C" fn fz_commit(mode: u8, keys: &[u8], text: &[u8], value: &mut usize) -> u8
+pub fn fz_commit(mode: u8, keys: &[u8], text: &[u8], value: &mut usize) -> u8
     ensures { (result ≡ Calls.returned (Calls.commit mode keys.now text.now)) × (value.new ≡ Calls.value_by Calls.only_one (Calls.commit mode keys.now text.now)) }
 {
     match commit::rule(mode, keys, text) {
@@ -262,8 +254,7 @@ pub extern "C" fn fz_commit(mode: u8, keys: &[u8], text: &[u8], value: &mut usiz
 }
 
 // A shown syllable as its standard key list; the value is the keys written. Refusals: 1, 2 (96), 6, 7, 4.
-#[unsafe(no_mangle)]
-pub extern "C" fn fz_spell(mode: u8, text: &[u8], out: &mut [u8], value: &mut usize) -> u8
+pub fn fz_spell(mode: u8, text: &[u8], out: &mut [u8], value: &mut usize) -> u8
     ensures { (result ≡ Calls.returned (Calls.spell mode text.now out.old)) × (value.new ≡ Calls.value_by Calls.only_one (Calls.spell mode text.now out.old)) × (out.new ≡ Calls.spell_output mode text.now out.old) }
 {
     match speller::spell(mode, text, out) {
@@ -273,8 +264,7 @@ pub extern "C" fn fz_spell(mode: u8, text: &[u8], out: &mut [u8], value: &mut us
 }
 
 // A drill as a recording; each press is one number, its key and 256 times its milliseconds; the value is the bytes written. Refusals: 1; 2, 3, 11 with the press's place; 4.
-#[unsafe(no_mangle)]
-pub extern "C" fn fz_record(mode: u8, presses: &[u64], out: &mut [u8], value: &mut usize) -> u8
+pub fn fz_record(mode: u8, presses: &[u64], out: &mut [u8], value: &mut usize) -> u8
     ensures { (result ≡ Calls.returned (Recordings.record_drill mode presses.now out.old)) × (value.new ≡ Calls.value_by Calls.only_one (Recordings.record_drill mode presses.now out.old)) × (out.new ≡ Recordings.record_output mode presses.now out.old) }
 {
     match recording::write(mode, presses, out) {
@@ -284,8 +274,7 @@ pub extern "C" fn fz_record(mode: u8, presses: &[u64], out: &mut [u8], value: &m
 }
 
 // The mode in front of a recording is the value, and `at` the place of the first press. Refusals: 10, 1, at place 0.
-#[unsafe(no_mangle)]
-pub extern "C" fn fz_begin(recording: &[u8], at: &mut usize, value: &mut usize) -> u8
+pub fn fz_begin(recording: &[u8], at: &mut usize, value: &mut usize) -> u8
     ensures { (result ≡ Calls.returned (Recordings.begin recording.now)) × (value.new ≡ Calls.value_by Calls.only_one (Recordings.begin recording.now)) × (at.new ≡ Recordings.begin_at recording.now at.old) }
 {
     match recording::begin(recording) {
@@ -306,8 +295,7 @@ fn press_number(x: KeyPress) -> usize
 
 // The press at a place; the value is its number, and 0 at the end. Place, keys of the word that has begun and milliseconds so far move on behind it,
 // and stay at the end and where the step is refused. Refusals: 10, 2, 3, 11 with their places.
-#[unsafe(no_mangle)]
-pub extern "C" fn fz_next(
+pub fn fz_next(
     recording: &[u8],
     mode: u8,
     at: &mut usize,
@@ -336,8 +324,7 @@ pub extern "C" fn fz_next(
 }
 
 // The words of a recording, each committed and with a newline, and the summary; the value is the bytes written. Refusals: 10, 1, 2, 3, 11 with the place; 4.
-#[unsafe(no_mangle)]
-pub extern "C" fn fz_replay(
+pub fn fz_replay(
     recording: &[u8],
     out: &mut [u8],
     summary: &mut [usize; 7],

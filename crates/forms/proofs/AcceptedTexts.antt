@@ -9,7 +9,7 @@ use lib.Dec.{T}
 use lib.ListN.{length}
 use Rattle.rules.specs.Letters.{Letters}
 use Rattle.rules.specs.CodePoints.{Sign, bytes, shown}
-use Rattle.rules.specs.Speller.{Reading, reading, read, letters_in, tone_in, fault, standard_keys}
+use Rattle.rules.specs.Speller.{Reading, reading, stuck_at, read, letters_in, tone_in, fault, standard_keys}
 use Rattle.rules.specs.Refusals.{is_mode, is_stuck, fault_of}
 use Rattle.rules.specs.WhatComesBack.{spell}
 use Rattle.rules.specs.declared.WriteAnswer.TheVariants.{Wrote}

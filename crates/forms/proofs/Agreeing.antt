@@ -246,6 +246,12 @@ module _ {u w : Letters} (g : Agrees u w) (t : ℕ) (s : Passed w t) where
       go : (e i n f g l : Bool) → T (not e) → T i → T n → T f → T g → T l →
           T (elim (eqb (first_that_holds (check 1 e ∷ check 2 (not i) ∷ check 3 (not n) ∷ check 4 (not f) ∷ check 5 (not g) ∷ [])) 0) [ true ↦ l | false ↦ false ])
       go false true true true true true a b c d e f = tt
+      go false false n _ _ l a b c d e f = elim b [ ]
+      go false true false _ _ l a b c d e f = elim c [ ]
+      go false true true false _ l a b c d e f = elim d [ ]
+      go false true true true false l a b c d e f = elim e [ ]
+      go false true true true true false a b c d e f = elim f [ ]
+      go true i n _ _ l a b c d e f = elim a [ ]
 
 pub valid_admitted : (w : Letters) (t : ℕ) → verdict w t ≡ 0 → T (admitted w)
 valid_admitted w t v = agreeing_admitted (self_agrees w) t (passed w t v)

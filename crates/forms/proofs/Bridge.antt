@@ -37,6 +37,13 @@ passed w t v =
   where
     go : (e i n f g l s : Bool) → T (eqb (by_checks e i n f g l s) 0) → T (not e) × T i × T n × T f × T g × T l × T s
     go false true true true true true true h = (tt, tt, tt, tt, tt, tt, tt)
+    go false false n f g l s h = elim h [ ]
+    go false true false f g l s h = elim h [ ]
+    go false true true false g l s h = elim h [ ]
+    go false true true true false l s h = elim h [ ]
+    go false true true true true false s h = elim h [ ]
+    go false true true true true true false h = elim h [ ]
+    go true i n f g l s h = elim h [ ]
 
 -- a word without leftovers is its initial, nucleus and final
 nil : (w : Letters) → T (is_nil w) → w ≡ []
@@ -85,7 +92,7 @@ joined_once b r = go (joins b r) refl
     first_moved (x ∷ b) [] t = absurd (joins_none (x ∷ b) t)
     first_moved (x ∷ []) (y ∷ r) t = joins_two x y [] r
     first_moved (x ∷ z ∷ b) (y ∷ r) t = absurd (subst T (joins_two x z b (y ∷ r)) t)
-first_moved [] _ t = elim t [ ]
+    first_moved [] _ t = elim t [ ]
 
     go : (c : Bool) → joins b r ≡ c → joins (initial_of c b r) (nucleus_of c r) ≡ false
     go true e = first_moved b r (subst T (sym e) tt)

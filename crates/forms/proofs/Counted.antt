@@ -60,3 +60,10 @@ retoned w t u v f =
   where
     go : (e i n f g l s : Bool) → T (not e) → T i → T n → T f → T g → T l → T s → by_checks e i n f g l s ≡ 0
     go false true true true true true true a b c d e f g = refl
+    go false false n _ _ l s a b c d e f g = elim b [ ]
+    go false true false _ _ l s a b c d e f g = elim c [ ]
+    go false true true false _ l s a b c d e f g = elim d [ ]
+    go false true true true false l s a b c d e f g = elim e [ ]
+    go false true true true true false s a b c d e f g = elim f [ ]
+    go false true true true true true false a b c d e f g = elim g [ ]
+    go true i n _ _ l s a b c d e f g = elim a [ ]

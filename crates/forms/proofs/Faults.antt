@@ -37,6 +37,8 @@ no_fault w t s =
     go : (a b c : Bool) → a ≡ false → T b → (v : ℕ) → T c → fault_if a b c v ≡ 0
     go true b c e t v u = absurd (subst T e tt)
     go false true true e t v u = refl
+    go false false c e t v u = elim t [ ]
+    go false true false e t v u = elim u [ ]
 
 -- and no other
 record Faultless (ss : List Sign) : Type 0 where

@@ -78,6 +78,7 @@ agrees_ươ (x ∷ nuc) t =
   where
     go : (p q : Bool) → T (p || p) → T (p || q)
     go true q t = tt
+    go false q t = elim t [ ]
 agrees_ươ [] t = elim t [ ]
 
 stands_ươ : (ini : Letters) → T (stands ini (word "ươ"))
@@ -141,6 +142,13 @@ module _ (w : Letters) (t : ℕ) where
     where
       go : (e i n f g l s : Bool) → T (eqb (by_checks e i n f g l s) 0) → T l
       go false true true true true true true h = tt
+      go false false n f g l s h = elim h [ ]
+      go false true false f g l s h = elim h [ ]
+      go false true true false g l s h = elim h [ ]
+      go false true true true false l s h = elim h [ ]
+      go false true true true true false s h = elim h [ ]
+      go false true true true true true false h = elim h [ ]
+      go true i n f g l s h = elim h [ ]
 
   listed_as : (b : Bool) → T (listed_before (initial w) (nucleus w) (final w)) → T b → by_list b ≡ by_list (listed_before (initial w) (nucleus w) (final w))
   listed_as b p q = ap by_list (is_true b q ∙ sym (is_true (listed_before (initial w) (nucleus w) (final w)) p))

@@ -1,6 +1,6 @@
 -- What the tests of a syllable's stroke, shape and tone keys say: they act, alone and one after the other, and are of different families.
 use mathlib.Core.Path.{◌≡◌, refl, sym, ap, subst, ◌∙◌}
-use mathlib.Core.Bool.{Bool, true, not, ◌&&◌}
+use mathlib.Core.Bool.{Bool, true, false, not, ◌&&◌}
 use mathlib.Core.List.{List, [], ◌∷◌, ◌++◌, map}
 use Prim.Native.Nat.{ℕ, zero, suc, ◌≤◌}
 use native.Mathlib.Omega.{arith}
@@ -8,7 +8,7 @@ use lib.Dec.{T, eqb}
 use lib.Ieee.Fits.{and_l, and_r}
 use Rattle.rules.specs.Letters.{Letters, circumflex, breve, horn, no_tone, dot, telex, vni, same}
 use Rattle.rules.specs.TakingApart.{admitted}
-use Rattle.rules.specs.KeyRoles.{role, tone_goes, Found, fresh, circumflex_on, circumflexed, breved, horned, Edit, nothing, change, only_if, asked, first, shape_edit, stroke_edit}
+use Rattle.rules.specs.KeyRoles.{role, tone_goes, Found, fresh, already, nowhere, off, circumflex_on, circumflexed, breved, horned, Edit, nothing, change, only_if, asked, first, shape_edit, stroke_edit}
 use Rattle.rules.specs.Speller.{tone_keys}
 use Rattle.rules.specs.Refusals.{is_mode}
 use Rattle.rules.specs.declared.Role.{Role}
@@ -90,7 +90,7 @@ alone_so r (q ∷ qs) v t =
 -- what the last step says: the key changes the letters to w
 only_if_so : (b : Bool) (e : Edit) → T b → only_if b e ≡ e
 only_if_so true e t = refl
-only_if_so mathlib.Core.Bool.false e t = elim t [ ]
+only_if_so false e t = elim t [ ]
 
 first_so : (e f : Edit) {d : Edit} → T (is_nothing e) → f ≡ d → first e f ≡ d
 first_so nothing f t p = p

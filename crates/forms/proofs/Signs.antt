@@ -101,7 +101,7 @@ as_shown w t v = go (eqb t no_tone) refl
   where
     at_place : (p : Place) → T (not (eqb t no_tone)) → T (on_vowel p w) → AsShown w t (signs_at p t w)
     at_place (At n) h k = toned n h k
-at_place Nowhere h k = elim k [ ]
+    at_place Nowhere h k = elim k [ ]
 
     go : (b : Bool) → eqb t no_tone ≡ b → AsShown w t (signs w t)
     go true e =

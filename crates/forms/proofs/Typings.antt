@@ -1,6 +1,6 @@
 -- Each valid syllable, in both modes: its bare letters typed, its marks on them, and its standard list typed, from the computed tests.
 use mathlib.Core.Path.{◌≡◌, refl, sym, ap, subst, ◌∙◌}
-use mathlib.Core.Bool.{Bool, true, ◌&&◌}
+use mathlib.Core.Bool.{Bool, true, false, ◌&&◌}
 use mathlib.Core.List.{List, [], ◌∷◌, ◌++◌, map}
 use mathlib.Core.Option.{Option}
 use Prim.Native.Nat.{ℕ, ◌+◌, ◌≤◌}
@@ -48,7 +48,7 @@ keeps_valid m ks v =
   where
     go : (b : Bool) → T b → keep_if b ≡ Keep
     go true t = refl
-go mathlib.Core.Bool.false t = elim t [ ]
+    go false t = elim t [ ]
 
 not_refused : (m : ℕ) (ks : List ℕ) → T (is_mode m) → T (all (is_key m) ks) → length ks ≤ 9 → type_all m ks ≡ record { answer = AllTyped; word = holding (new_word m) (typed m ks) }
 unfolding type_all

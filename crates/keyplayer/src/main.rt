@@ -1,4 +1,8 @@
 // The player with a line for each key: its time, what it did and what was shown after it.
-fn main() {
-    playing::run(true);
+#![tactic(auto)]
+
+use std::process::ExitCode;
+
+fn main(rt: HostRuntime) -> ExitCode {
+    playing::run(&rt, true)
 }

@@ -9,7 +9,7 @@ use native.Mathlib.Omega.{arith}
 use borrow.Author.Tests.{eq-eqb, ne_eqb, lt-ltb, le-ltb}
 use lib.Dec.{eqb, ltb, lit≤}
 use lib.ListN.{length, take, drop, set, length-append, length-take, length-drop, length-set}
-use lib.Seq.{take-length, take_all, take_at, take-suc-set, length-take-le}
+use lib.Seq.{take_at, take-suc-set, length-take-le}
 use Rattle.rules.specs.Decision.{handed_back}
 use Rattle.rules.specs.Drill.{newline, decimal, or_hyphen, place_column, joined, columns, place_or_hyphen}
 use Rattle.rules.specs.declared.Place.{Place}
@@ -21,15 +21,15 @@ use Rattle.lines.specs.Appending.{Appends, ended_by}
 -- a part copied into the text, and a byte behind it
 module _ (text part : List ℕ) (at end : ℕ) (room : at + length part < length text) where
   abbrev copied : List ℕ
-  copied = take at text ++ ((take (length part) part ++ drop (length part) (drop at text)) ++ drop (length text - at) (drop at text))
+  copied = take at text ++ (part ++ drop (length part) (drop at text))
 
   as_long : length copied ≡ length text
   as_long = simp (length-append, length-take, length-drop) (omega arith)
 
   in_front : take (at + length part) copied ≡ take at text ++ part
   in_front =
-      let rest = drop (length part) (drop at text) ++ drop (length text - at) (drop at text) in
-      let e : copied ≡ (take at text ++ part) ++ rest = simp (append_assoc, take-length) in
+      let rest = drop (length part) (drop at text) in
+      let e : copied ≡ (take at text ++ part) ++ rest = simp append_assoc in
       ap (take (at + length part)) e ∙
       take_at (take at text ++ part) rest (at + length part) (length-append (take at text) part ∙ ap (λ (n : ℕ). n + length part) (length-take-le at text (omega arith)))
 
@@ -43,11 +43,9 @@ module _ (text part : List ℕ) (at end : ℕ) (room : at + length part < length
             rw add-one (take-suc-set copied (at + length part) end (omega (arith, as_long)) ∙ ap (λ (l : List ℕ). l ++ (end ∷ [])) in_front ∙ append_assoc (take at text) part (end ∷ []));
       }
 
-  pub column_put : (n : ℕ) (dst : List ℕ) → n ≡ length part → dst ≡ take (length part) part ++ drop (length part) (take (length text - at) (drop at text))
-      → Appends text (set (take at text ++ (dst ++ drop (length text - at) (drop at text))) (at + n) end) at (at + n + 1) (part ++ (end ∷ []))
-  column_put n dst e d =
-      let whole : take (length text - at) (drop at text) ≡ drop at text = take_all (length text - at) (drop at text) (simp length-drop (omega arith)) in
-      simp (e, d, whole) put
+  pub column_put : (dst : List ℕ) (k : ℕ) → dst ≡ part → k ≡ length part
+      → Appends text (set (take at text ++ (dst ++ drop k (drop at text))) (at + length part) end) at (at + length part + 1) (part ++ (end ∷ []))
+  column_put dst k d e = simp (d, e) put
 
 -- the same bytes, or the same buffer before, said otherwise
 pub as_part : {before after : List ℕ} {at next : ℕ} {p q : List ℕ} → p ≡ q → Appends before after at next p → Appends before after at next q

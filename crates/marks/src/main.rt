@@ -1,6 +1,7 @@
 // The drill with the places of the keys: each line of standard input answered on standard output, behind a header, in two columns more.
 use lines::Program;
+use std::process::ExitCode;
 
-fn main() {
-    filter::run(Program::DrillWithKeys);
+fn main(rt: HostRuntime) -> ExitCode {
+    filter::run(&rt, Program::DrillWithKeys)
 }

@@ -5,8 +5,8 @@ ghost use Rattle.recording.specs.Recordings.{step_at, begin as begin_of};
 ghost use Rattle.playing.specs.Parts.{IsPart, Enough, ReadOn, shown_in, short, later};
 
 use crate::{Read, Window, least, say};
-use libc::STDIN_FILENO;
 use recording::{BeginAnswer, Progress, Stepped};
+use std::io::Read as _;
 
 // A step is two numbers, each of at most five bytes.
 const STEP: usize = 10;
@@ -47,28 +47,27 @@ fn to_front(block: &mut [u8], at: usize, end: usize) -> usize
 {
     let n = end - at;
     let mut rest = [0; STEP];
-    bytes::copy(&block[at..end], &mut rest);
-    bytes::copy(&rest[0..n], block)
+    rest[..n].copy_from_slice(&block[at..end]);
+    block[..n].copy_from_slice(&rest[..n]);
+    n
 }
 
 // The rest of the block at its front, and what a read brings behind it.
-pub(crate) fn fill(block: &mut [u8], window: Window) -> Read
+pub(crate) fn fill(rt: &HostRuntime, block: &mut [u8], window: Window) -> Read
     requires { window.end ≤ window.at + 10 }
     ensures { window.at ≤ window.end → window.end ≤ length block.old → ReadOn window block.old block.new result }
 {
     let end = least(window.end, block.len());
     let at = least(window.at, end);
     let rest = to_front(block, at, end);
-    let got = libc::read(STDIN_FILENO, &mut block[rest..]);
-    if got < 0 {
-        say(b"replay: cannot read\n");
+    let Ok(more) = rt.stdin().read(&mut block[rest..]) else {
+        say(rt, b"replay: cannot read\n");
         return Read::Failed;
-    }
-    let more = io::count(got, &block[rest..]);
+    };
     Read::Filled(Window {
         start: std::num::wrapping_add_u64(window.start, at as u64),
         at: 0,
         end: rest + more,
-        last: got == 0,
+        last: more == 0,
     })
 }

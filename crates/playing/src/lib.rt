@@ -1,11 +1,13 @@
 // A replay of any length: the recording on standard input played key by key, what it commits or what each key did on standard output, and the summary behind it.
 // Reads, plays and writes in blocks; a failed read or write ends the run, with what was played so far written out and a message on standard error.
+#![tactic(auto)]
+
 ghost use Rattle.std.specs.Prelude.{◌≡◌, min};
 
-use libc::STDERR_FILENO;
 use recording::{BeginAnswer, KeyPress, Press, Progress, SPACE};
 use replay::WordAnswer;
 use rules::{Decision, StepAnswer, Word};
+use std::process::ExitCode;
 
 mod blocks;
 mod columns;
@@ -14,9 +16,13 @@ const BLOCK: usize = 16384;
 
 const OUTPUT: usize = 65536;
 
+// The exit status where nobody reads the output any more: a shell's for a program that SIGPIPE ended. The signal itself is
+// passed over before main begins, and the write fails.
+const UNREAD: u8 = 141;
+
 // The part of the recording that lies in the block: where in the recording the block starts, the place of the next step in the block,
 // how many bytes the block holds, and whether the recording ends with them.
-#[derive(Drop)]
+#[derive(Clone, Copy)]
 struct Window {
     start: u64,
     at: usize,
@@ -26,7 +32,7 @@ struct Window {
 
 // The words so far: how many, how many of them kept and restored, and how many of their keys acted, undid and were appended.
 // Each of these numbers is at most that of the bytes read, of which no run reads 2 to the 64, so none of them wraps.
-#[derive(Drop)]
+#[derive(Clone, Copy)]
 struct Totals {
     words: u64,
     kept: u64,
@@ -36,15 +42,16 @@ struct Totals {
     appended: u64,
 }
 
-// The bytes of the output that wait to be written, and whether a write failed.
-#[derive(Drop)]
+// The bytes of the output that wait to be written, whether a write failed, and whether it did since nobody reads any more.
+#[derive(Clone, Copy)]
 struct Waiting {
     count: usize,
     failed: bool,
+    unread: bool,
 }
 
 // How far the replay has come. The mode is read before anything else.
-#[derive(Drop)]
+#[derive(Clone, Copy)]
 struct Play {
     with_keys: bool,
     begun: bool,
@@ -54,22 +61,23 @@ struct Play {
     waiting: Waiting,
 }
 
-// What follows a turn: another, or nothing but what waits.
-#[derive(Drop)]
+// What follows a turn: another, or nothing but what waits, at the end of the recording or where a read failed.
+#[derive(Clone, Copy)]
 enum Next {
     More(Play),
     Done(Waiting),
+    Failed(Waiting),
 }
 
 // After a read: the window, or nothing where it failed.
-#[derive(Drop)]
+#[derive(Clone, Copy)]
 enum Read {
     Filled(Window),
     Failed,
 }
 
-fn say(text: &[u8]) {
-    io::write_all(STDERR_FILENO, text);
+fn say(rt: &HostRuntime, text: &[u8]) {
+    let _ = rt.stderr().write_all(text);
 }
 
 fn least(a: usize, b: usize) -> usize
@@ -80,6 +88,7 @@ fn least(a: usize, b: usize) -> usize
 
 // A key typed into the word that has begun, and its line. The word takes the key: the step asked that of the recording.
 fn type_key(
+    rt: &HostRuntime,
     out: &mut [u8; OUTPUT],
     waiting: Waiting,
     word: &mut [u8; layout::LENGTH],
@@ -90,12 +99,12 @@ fn type_key(
         return waiting;
     };
     let key = [x.key];
-    let a = columns::put_column(out, waiting, x.milliseconds as u64);
-    let b = columns::put(out, a, &key);
-    let c = columns::put(out, b, b" ");
-    let d = columns::put_outcome(out, c, outcome);
+    let a = columns::put_column(rt, out, waiting, x.milliseconds as u64);
+    let b = columns::put(rt, out, a, &key);
+    let c = columns::put(rt, out, b, b" ");
+    let d = columns::put_outcome(rt, out, c, outcome);
     let reading = layout::read(word);
-    columns::put_shown(out, d, reading.word)
+    columns::put_shown(rt, out, d, reading.word)
 }
 
 // A new word in the mode, for its keys to be typed into.
@@ -106,6 +115,7 @@ fn begin_word(word: &mut [u8; layout::LENGTH], mode: u8) {
 
 // A key that is no space: kept for the word's end, and with keys typed at once.
 fn play_key(
+    rt: &HostRuntime,
     out: &mut [u8; OUTPUT],
     p: Play,
     keys: &mut [u8; Word::KEYS],
@@ -123,7 +133,7 @@ fn play_key(
     if n == 0 {
         begin_word(word, progress.mode);
     }
-    type_key(out, p.waiting, word, x)
+    type_key(rt, out, p.waiting, word, x)
 }
 
 fn with_word(t: Totals, decision: Decision, acted: u8, undone: u8, appended: u8) -> Totals {
@@ -144,7 +154,7 @@ fn with_word(t: Totals, decision: Decision, acted: u8, undone: u8, appended: u8)
 }
 
 // The word that has begun, committed. None is refused: the steps asked that of its keys.
-fn commit(out: &mut [u8; OUTPUT], p: Play, keys: &[u8; Word::KEYS]) -> Play {
+fn commit(rt: &HostRuntime, out: &mut [u8; OUTPUT], p: Play, keys: &[u8; Word::KEYS]) -> Play {
     let progress = p.progress;
     let n = least(progress.in_word, Word::KEYS);
     let held = &keys[..];
@@ -155,7 +165,14 @@ fn commit(out: &mut [u8; OUTPUT], p: Play, keys: &[u8; Word::KEYS]) -> Play {
     };
     let decision = done.decision;
     let bytes = done.bytes;
-    let waiting = columns::put_committed(out, p.waiting, p.with_keys, decision, &line[0..bytes]);
+    let waiting = columns::put_committed(
+        rt,
+        out,
+        p.waiting,
+        p.with_keys,
+        decision,
+        &line[0..bytes],
+    );
     let totals = with_word(p.totals, decision, done.acted, done.undone, done.appended);
     let mut next = p;
     next.totals = totals;
@@ -164,44 +181,51 @@ fn commit(out: &mut [u8; OUTPUT], p: Play, keys: &[u8; Word::KEYS]) -> Play {
 }
 
 // The columns in front of a word's end.
-fn put_end(out: &mut [u8; OUTPUT], p: Play, milliseconds: u32) -> Play {
+fn put_end(rt: &HostRuntime, out: &mut [u8; OUTPUT], p: Play, milliseconds: u32) -> Play {
     if !p.with_keys {
         return p;
     }
-    let a = columns::put_column(out, p.waiting, milliseconds as u64);
-    let b = columns::put(out, a, b"space ");
+    let a = columns::put_column(rt, out, p.waiting, milliseconds as u64);
+    let b = columns::put(rt, out, a, b"space ");
     let mut next = p;
     next.waiting = b;
     next
 }
 
-fn play_space(out: &mut [u8; OUTPUT], p: Play, keys: &[u8; Word::KEYS], x: KeyPress) -> Play {
-    let before = put_end(out, p, x.milliseconds);
-    commit(out, before, keys)
+fn play_space(
+    rt: &HostRuntime,
+    out: &mut [u8; OUTPUT],
+    p: Play,
+    keys: &[u8; Word::KEYS],
+    x: KeyPress,
+) -> Play {
+    let before = put_end(rt, out, p, x.milliseconds);
+    commit(rt, out, before, keys)
 }
 
 // The end of the recording: a last word, if one has begun, and the summary.
-fn end(out: &mut [u8; OUTPUT], p: Play, keys: &[u8; Word::KEYS]) -> Waiting {
+fn end(rt: &HostRuntime, out: &mut [u8; OUTPUT], p: Play, keys: &[u8; Word::KEYS]) -> Waiting {
     let progress = p.progress;
     let last = if progress.in_word == 0 {
         p
     } else {
-        last_word(out, p, keys)
+        last_word(rt, out, p, keys)
     };
-    columns::put_summary(out, last.waiting, last.totals, progress.milliseconds)
+    columns::put_summary(rt, out, last.waiting, last.totals, progress.milliseconds)
 }
 
-fn last_word(out: &mut [u8; OUTPUT], p: Play, keys: &[u8; Word::KEYS]) -> Play {
+fn last_word(rt: &HostRuntime, out: &mut [u8; OUTPUT], p: Play, keys: &[u8; Word::KEYS]) -> Play {
     let mut next = p;
     if p.with_keys {
-        let a = columns::put(out, p.waiting, b"- end ");
+        let a = columns::put(rt, out, p.waiting, b"- end ");
         next.waiting = a;
     }
-    commit(out, next, keys)
+    commit(rt, out, next, keys)
 }
 
 // The play behind a press.
 fn played(
+    rt: &HostRuntime,
     out: &mut [u8; OUTPUT],
     p: Play,
     keys: &mut [u8; Word::KEYS],
@@ -209,9 +233,9 @@ fn played(
     x: KeyPress,
 ) -> Play {
     if x.key == SPACE {
-        return play_space(out, p, keys, x);
+        return play_space(rt, out, p, keys, x);
     }
-    let waiting = play_key(out, p, keys, word, x);
+    let waiting = play_key(rt, out, p, keys, word, x);
     let mut next = p;
     next.waiting = waiting;
     next
@@ -227,12 +251,13 @@ fn at_place(p: Play, at: usize, progress: Progress) -> Play {
     next
 }
 
-fn begin(out: &mut [u8; OUTPUT], block: &[u8], p: Play) -> Next {
+fn begin(rt: &HostRuntime, out: &mut [u8; OUTPUT], block: &[u8], p: Play) -> Next {
     let window = p.window;
     let answer = blocks::first_mode(block, window);
     match answer {
         BeginAnswer::Begins(b) => Next::More(at_place(p, b.at, b.progress)),
         BeginAnswer::Refused(r) => Next::Done(columns::put_refused(
+            rt,
             out,
             p.waiting,
             window.start,
@@ -242,6 +267,7 @@ fn begin(out: &mut [u8; OUTPUT], block: &[u8], p: Play) -> Next {
 }
 
 fn play_step(
+    rt: &HostRuntime,
     out: &mut [u8; OUTPUT],
     block: &[u8],
     p: Play,
@@ -252,14 +278,19 @@ fn play_step(
     let s = blocks::next_step(block, window, p.progress);
     let press = s.press;
     match press {
-        Press::Pressed(x) => Next::More(at_place(played(out, p, keys, word, x), s.at, s.progress)),
-        Press::End => Next::Done(end(out, p, keys)),
-        Press::Refused(r) => Next::Done(columns::put_refused(out, p.waiting, window.start, r)),
+        Press::Pressed(x) => Next::More(at_place(
+            played(rt, out, p, keys, word, x),
+            s.at,
+            s.progress,
+        )),
+        Press::End => Next::Done(end(rt, out, p, keys)),
+        Press::Refused(r) => Next::Done(columns::put_refused(rt, out, p.waiting, window.start, r)),
     }
 }
 
 // One turn: a read where the block runs short, else the mode or a step.
 fn turn(
+    rt: &HostRuntime,
     block: &mut [u8],
     out: &mut [u8; OUTPUT],
     p: Play,
@@ -268,19 +299,19 @@ fn turn(
 ) -> Next {
     let at = p.window;
     if blocks::is_short(at) {
-        let answer = blocks::fill(block, at);
+        let answer = blocks::fill(rt, block, at);
         let Read::Filled(window) = answer else {
             let waiting = p.waiting;
-            return Next::Done(waiting);
+            return Next::Failed(waiting);
         };
         let mut next = p;
         next.window = window;
         return Next::More(next);
     }
     if p.begun {
-        return play_step(out, block, p, keys, word);
+        return play_step(rt, out, block, p, keys, word);
     }
-    begin(out, block, p)
+    begin(rt, out, block, p)
 }
 
 fn not_begun(with_keys: bool, waiting: Waiting) -> Play {
@@ -310,44 +341,61 @@ fn not_begun(with_keys: bool, waiting: Waiting) -> Play {
     }
 }
 
-fn header(out: &mut [u8; OUTPUT], with_keys: bool) -> Waiting {
+fn header(rt: &HostRuntime, out: &mut [u8; OUTPUT], with_keys: bool) -> Waiting {
     let none = Waiting {
         count: 0,
         failed: false,
+        unread: false,
     };
     if with_keys {
-        return columns::put(out, none, b"ms key did shown\n");
+        return columns::put(rt, out, none, b"ms key did shown\n");
     }
     none
 }
 
-// Nothing says that the input ends, so the loop counts its turns down, from a number that no run uses up.
-fn turns(with_keys: bool, block: &mut [u8], out: &mut [u8; OUTPUT]) -> Waiting {
+// What waits when no turn follows; an error where the recording could not be read on.
+// Nothing says that the input ends, so the loop counts its turns, up to a number that no run uses up.
+fn turns(
+    rt: &HostRuntime,
+    with_keys: bool,
+    block: &mut [u8],
+    out: &mut [u8; OUTPUT],
+) -> Result<Waiting, Waiting> {
     let mut keys = [0; Word::KEYS];
     let mut word = [0; layout::LENGTH];
-    let mut p = not_begun(with_keys, header(out, with_keys));
-    let mut left = u64::MAX;
-    while left > 0 {
-        let next = turn(block, out, p, &mut keys, &mut word);
+    let mut p = not_begun(with_keys, header(rt, out, with_keys));
+    for _ in 0..u64::MAX {
+        let next = turn(rt, block, out, p, &mut keys, &mut word);
         match next {
-            Next::Done(waiting) => return waiting,
+            Next::Done(waiting) => return Ok(waiting),
+            Next::Failed(waiting) => return Err(waiting),
             Next::More(q) => {
                 p = q;
             }
         }
         let waiting = p.waiting;
         if waiting.failed {
-            return waiting;
+            return Ok(waiting);
         }
-        left -= 1;
     }
-    p.waiting
+    Err(p.waiting)
 }
 
-// The whole run of a player, with a line for each key or only for each word. No contract can say what is read and written.
-pub fn run(with_keys: bool) {
+// The whole run of a player, with a line for each key or only for each word; a failure where something could not be read or written.
+// No contract can say what is read and written.
+pub fn run(rt: &HostRuntime, with_keys: bool) -> ExitCode {
     let mut block = [0; BLOCK];
     let mut out = [0; OUTPUT];
-    let waiting = turns(with_keys, &mut block, &mut out);
-    columns::flush(&out, waiting);
+    let (waiting, cut) = match turns(rt, with_keys, &mut block, &mut out) {
+        Ok(waiting) => (waiting, false),
+        Err(waiting) => (waiting, true),
+    };
+    let written = columns::flush(rt, &out, waiting);
+    if written.unread {
+        return ExitCode::from(UNREAD);
+    }
+    if cut | written.failed {
+        return ExitCode::FAILURE;
+    }
+    ExitCode::SUCCESS
 }

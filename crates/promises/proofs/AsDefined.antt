@@ -28,7 +28,7 @@ use Rattle.recording.specs.declared.BeginAnswer.{BeginAnswer}
 use Rattle.reader.specs.declared.Reader.{Reader}
 use Rattle.replay.specs.Replays.{replayed}
 use Rattle.replay.specs.declared.ReplayAnswer.{ReplayAnswer}
-use Rattle.promises.specs.Contracts.{StartAllows, StepAllows, TypeAllows, ShowAllows, PlaceAllows, VerdictAllows, DecisionAllows, CommitAllows, QuestionAllows, SpellAllows, LineAllows, KeyAllows}
+use Rattle.promises.specs.ContractsAllow.{StartAllows, StepAllows, TypeAllows, ShowAllows, PlaceAllows, VerdictAllows, DecisionAllows, CommitAllows, QuestionAllows, SpellAllows, LineAllows, KeyAllows}
 use Rattle.promises.specs.RecordedContracts.{NumberAllows, WrittenAllows, BeginAllows, PressAllows, RecordAllows, NextAllows, ReplayAllows}
 
 pub started : {m : ℕ} {r : Start} → StartAllows m r → r ≡ start_of m

@@ -4,7 +4,8 @@ use mathlib.Core.Bool.{Bool, true, false, ◌&&◌}
 use mathlib.Core.List.{List, []}
 use mathlib.Core.Option.{Option, none, some}
 use Prim.Native.Nat.{ℕ}
-use denote.Ref.{Bor}
+use denote.Bor.{Bor}
+use denote.MutBor.{MutBor}
 use lib.Dec.{T, eqb→eq}
 use lib.ListN.{length}
 use Rattle.rules.specs.CodePoints.{shown}
@@ -209,12 +210,15 @@ box_tight =
       spelling = λ mode text before after after' r r' v v' a b. three (spelled_in a ∙ sym (spelled_in b));
     }
 
--- lent bytes that hold these, and a lent number
+-- lent bytes that hold these, bytes lent to be written, and a number lent so
 abbrev pub holds : List ℕ → Bor (List ℕ)
 holds bs = record { ref_ptr = (0, 0); now = bs }
 
-abbrev number : ℕ → Bor ℕ
-number n = record { ref_ptr = (0, 0); now = n }
+abbrev pub lends : List ℕ → MutBor (List ℕ)
+lends bs = record { ref_ptr = (0, 0); ghost_name = 0; now = bs }
+
+abbrev number : ℕ → MutBor ℕ
+number n = record { ref_ptr = (0, 0); ghost_name = 0; now = n }
 
 pub box_possible : BoxPossible
 box_possible =
@@ -225,8 +229,8 @@ box_possible =
         _,
         record {
           lifetimes = ([], ([], tt));
-          args = (mode, (holds before, (number 0, tt)));
-          exit = (mode, (holds (Calls.start_word mode before), (number (value_by only_one (Calls.start mode before)), tt)));
+          args = (mode, (lends before, (number 0, tt)));
+          exit = (mode, (lends (Calls.start_word mode before), (number (value_by only_one (Calls.start mode before)), tt)));
           of_mode = refl;
           at_entry = refl;
           at_exit = refl;
@@ -240,8 +244,8 @@ box_possible =
         _,
         record {
           lifetimes = ([], ([], tt));
-          args = (holds before, (key, (number 0, tt)));
-          exit = (holds (Calls.type_word before key), (key, (number (value_by in_one (Calls.type before key)), tt)));
+          args = (lends before, (key, (number 0, tt)));
+          exit = (lends (Calls.type_word before key), (key, (number (value_by in_one (Calls.type before key)), tt)));
           at_entry = refl;
           of_key = refl;
           at_exit = refl;
@@ -257,10 +261,10 @@ box_possible =
         _,
         record {
           lifetimes = ([], ([], ([], ([], tt))));
-          args = (holds before, (key, (holds out, (number 0, (number 0, tt)))));
+          args = (lends before, (key, (lends out, (number 0, (number 0, tt)))));
           exit = (
-            holds (Calls.type_and_show_word before key out),
-            (key, (holds (Calls.type_and_show_output before key out), (number (Calls.did (Calls.type_and_show before key out)), (number (value_by only_one (Calls.type_and_show before key out)), tt)))),
+            lends (Calls.type_and_show_word before key out),
+            (key, (lends (Calls.type_and_show_output before key out), (number (Calls.did (Calls.type_and_show before key out)), (number (value_by only_one (Calls.type_and_show before key out)), tt)))),
           );
           at_entry = refl;
           of_key = refl;
@@ -278,8 +282,8 @@ box_possible =
         _,
         record {
           lifetimes = ([], ([], ([], tt)));
-          args = (holds lent, (holds before, (number 0, tt)));
-          exit = (holds lent, (holds (Calls.show_output lent before), (number (value_by only_one (Calls.show lent before)), tt)));
+          args = (holds lent, (lends before, (number 0, tt)));
+          exit = (holds lent, (lends (Calls.show_output lent before), (number (value_by only_one (Calls.show lent before)), tt)));
           of_word = refl;
           at_entry = refl;
           at_exit = refl;
@@ -322,8 +326,8 @@ box_possible =
         _,
         record {
           lifetimes = ([], ([], ([], tt)));
-          args = (mode, (holds text, (holds before, (number 0, tt))));
-          exit = (mode, (holds text, (holds (Calls.spell_output mode text before), (number (value_by only_one (Calls.spell mode text before)), tt))));
+          args = (mode, (holds text, (lends before, (number 0, tt))));
+          exit = (mode, (holds text, (lends (Calls.spell_output mode text before), (number (value_by only_one (Calls.spell mode text before)), tt))));
           of_mode = refl;
           of_text = refl;
           at_entry = refl;

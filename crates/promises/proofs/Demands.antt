@@ -26,11 +26,11 @@ use Rattle.commit.specs.declared.Ruling.TheVariants.{Keep as RulingKeep, Restore
 use Rattle.output.specs.Front.{put}
 use Rattle.lines.specs.Programs.{line_answer}
 use Rattle.session.specs.declared.Session.{Session}
-use Rattle.promises.specs.Contracts.{CommitAllows}
+use Rattle.promises.specs.ContractsAllow.{CommitAllows}
 use Rattle.promises.specs.Exactly.{Exactly}
 use Rattle.promises.specs.Demands.{Demand1, Demand2, Tight, Possible, Recordings, Demands}
 use Rattle.promises.proofs.AsDefined.{started, stepped, typed_as, shown_answer, shown_output, placed, judged, decided, handed_back_law, asked, spelled_answer, spelled_output, line_answer_law, line_output, key_answer, key_session}
-use Rattle.promises.proofs.Box.{box_answers, box_tight, holds, box_possible}
+use Rattle.promises.proofs.Box.{box_answers, box_tight, holds, lends, box_possible}
 use Rattle.promises.proofs.EachKey.{every_prefix, after_each_key, after_the_list, at_each_key}
 use Rattle.promises.proofs.RoundTrip.{spelled_back, lists_differ, only_syllables}
 use Rattle.promises.proofs.TwoOrders.{first_half}
@@ -176,15 +176,15 @@ possible =
       showing = λ w before. (
         (show w before).answer,
         (show w before).output,
-        record { lifetimes = ([], tt); args = (w, (holds before, tt)); exit = (w, (holds (show w before).output, tt)); of_word = refl; at_entry = refl; at_exit = refl; post = (refl, refl) },
+        record { lifetimes = ([], tt); args = (w, (lends before, tt)); exit = (w, (lends (show w before).output, tt)); of_word = refl; at_entry = refl; at_exit = refl; post = (refl, refl) },
       );
       spelling = λ m text before. (
         (spell m text before).answer,
         (spell m text before).output,
         record {
           lifetimes = ([], ([], tt));
-          args = (m, (holds text, (holds before, tt)));
-          exit = (m, (holds text, (holds (spell m text before).output, tt)));
+          args = (m, (holds text, (lends before, tt)));
+          exit = (m, (holds text, (lends (spell m text before).output, tt)));
           mode = refl;
           of_text = refl;
           at_entry = refl;
@@ -218,8 +218,8 @@ possible =
         (line_answer p line before).output,
         record {
           lifetimes = ([], ([], tt));
-          args = (p, (holds line, (holds before, tt)));
-          exit = (p, (holds line, (holds (line_answer p line before).output, tt)));
+          args = (p, (holds line, (lends before, tt)));
+          exit = (p, (holds line, (lends (line_answer p line before).output, tt)));
           of_program = refl;
           of_line = refl;
           at_entry = refl;
@@ -232,8 +232,8 @@ possible =
         record { word = (step before.word k).word },
         record {
           lifetimes = ([], tt);
-          args = (record { ref_ptr = (0, 0); now = before }, (k, tt));
-          exit = (record { ref_ptr = (0, 0); now = record { word = (step before.word k).word } }, (k, tt));
+          args = (record { ref_ptr = (0, 0); ghost_name = 0; now = before }, (k, tt));
+          exit = (record { ref_ptr = (0, 0); ghost_name = 0; now = record { word = (step before.word k).word } }, (k, tt));
           at_entry = refl;
           key = refl;
           at_exit = refl;

@@ -30,7 +30,7 @@ use Rattle.rules.proofs.Typing.{kept_mode, kept_keys, stepping, typing_is_steppi
 use Rattle.rules.proofs.NotRefused.{finds, judges, decides, typed_in_range, typed_word}
 use Rattle.rules.proofs.KeyPlaces.{typed_told}
 use Rattle.rules.specs.KeyPlaces.{PlacesTold}
-use Rattle.promises.specs.Contracts.{StepAllows}
+use Rattle.promises.specs.ContractsAllow.{StepAllows}
 use Rattle.rules.specs.AnswersInNumbers.{answered, outcome_numbers, start_says, step_says, type_says, write_says, place_says, verdict_says, decision_says}
 use Rattle.promises.specs.EachKey.{Stepped, no_key, key_and_more, AcceptedKeys, EveryPrefix, AsRuled, AfterEachKey, AfterTheList, AtEachKey}
 use Rattle.promises.proofs.AsDefined.{started, stepped, typed_as, shown_answer, shown_output, placed, judged, decided}

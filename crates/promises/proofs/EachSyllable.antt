@@ -19,7 +19,7 @@ use Rattle.rules.specs.Syllables.{open_word, bare_keys}
 use Rattle.forms.specs.Spelling.{Gives}
 use Rattle.forms.proofs.AnyOrder.{any_order}
 use Rattle.rules.specs.AnswersInNumbers.{type_says, write_says, verdict_says, decision_says}
-use Rattle.promises.specs.Contracts.{TypeAllows}
+use Rattle.promises.specs.ContractsAllow.{TypeAllows}
 use Rattle.promises.specs.EachSyllable.{IsSyllable, SecondHalf}
 use Rattle.promises.proofs.AsDefined.{typed_as, shown_answer, shown_output, judged, decided}
 use Rattle.promises.proofs.Alike.{writes_state, no_room_for}

@@ -32,7 +32,7 @@ use Rattle.replay.specs.Replays.{replayed}
 use Rattle.promises.specs.RecordedContracts.{BeginAllows, PressAllows}
 use Rattle.promises.specs.Recorded.{NumbersBack, BytesBack, ReaderSteps, NoPress, StandsStill, Walk, ended, pressed, Stops, refused, after_press, Reads, BrokenOff, at_the_mode, at_a_step, EveryRecording, WriteRead, ReadWrite, RecordedTight, RecordedPossible}
 use Rattle.promises.proofs.AsDefined.{number_read, number_written, begun_as, pressed_as, recorded_answer, recorded_output, next_step, next_reader, replay_answer, replay_output}
-use Rattle.promises.proofs.Box.{holds}
+use Rattle.promises.proofs.Box.{holds, lends}
 
 -- numbers
 its_groups : (n : ℕ) (g : Groups) → g ≡ held (written n) → take g.count g.bytes ≡ written n
@@ -198,8 +198,8 @@ recorded_possible =
         (written_drill m ns before).output,
         record {
           lifetimes = ([], ([], tt));
-          args = (m, (holds ns, (holds before, tt)));
-          exit = (m, (holds ns, (holds (written_drill m ns before).output, tt)));
+          args = (m, (holds ns, (lends before, tt)));
+          exit = (m, (holds ns, (lends (written_drill m ns before).output, tt)));
           of_mode = refl;
           of_presses = refl;
           at_entry = refl;
@@ -212,8 +212,8 @@ recorded_possible =
         record { recording = before.recording; at = t.at },
         record {
           lifetimes = ([], ([], tt));
-          args = (record { ref_ptr = (0, 0); now = before }, (p, tt));
-          exit = (record { ref_ptr = (0, 0); now = record { recording = before.recording; at = t.at } }, (p, tt));
+          args = (record { ref_ptr = (0, 0); ghost_name = 0; now = before }, (p, tt));
+          exit = (record { ref_ptr = (0, 0); ghost_name = 0; now = record { recording = before.recording; at = t.at } }, (p, tt));
           at_entry = refl;
           of_progress = refl;
           at_exit = refl;
@@ -225,8 +225,8 @@ recorded_possible =
         (replayed s before).output,
         record {
           lifetimes = ([], ([], tt));
-          args = (holds s, (holds before, tt));
-          exit = (holds s, (holds (replayed s before).output, tt));
+          args = (holds s, (lends before, tt));
+          exit = (holds s, (lends (replayed s before).output, tt));
           of_recording = refl;
           at_entry = refl;
           at_exit = refl;

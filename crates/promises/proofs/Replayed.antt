@@ -38,7 +38,7 @@ use Rattle.recording.proofs.Readings.{met_press}
 use Rattle.replay.specs.Replays.{last_word, words_from, committed_line, if_kept, if_restored, of_words, milliseconds, summary, Replayed, summary_if, answered_by, refused_replay, of_recorded, replayed}
 use Rattle.replay.proofs.Passing.{all_and, is_allowed}
 use Rattle.replay.specs.declared.ReplayAnswer.{ReplayAnswer}
-use Rattle.promises.specs.Contracts.{TypeAllows, ShowAllows, CommitAllows}
+use Rattle.promises.specs.ContractsAllow.{TypeAllows, ShowAllows, CommitAllows}
 use Rattle.promises.specs.RecordedContracts.{ReplayAllows}
 use Rattle.promises.specs.EachKey.{AcceptedKeys}
 use Rattle.promises.specs.Recorded.{Walk, ended, pressed, Reads, BrokenOff, Lines, no_word, word_and_more, EveryDrillTyped, ReplayIsTyping, ReplayTooShort, ReplayRefuses, keys_in, AddsUp, SummaryAddsUp}
@@ -110,18 +110,18 @@ module _ (m : ℕ) (mode : T (is_mode m)) where
 
   module _ (p : Progress) (ks : List ℕ) (x : KeyPress) (begun : HasBegun p ks) (fine : IsFine p x) where
     a_space : is_space x.key ≡ true → HasBegun (onward p x) []
-    a_space e = record { in_mode = begun.in-mode; so_many = ap (λ (b : Bool). in_word b p.in_word) e; ok = no_keys }
+    a_space e = record { in_mode = begun.in_mode; so_many = ap (λ (b : Bool). in_word b p.in_word) e; ok = no_keys }
 
     a_key : is_space x.key ≡ false → HasBegun (onward p x) (ks ++ (x.key ∷ []))
     a_key e =
         let long = length-append ks (x.key ∷ []) in
         record {
-          in_mode = begun.in-mode;
-          so_many = ap (λ (b : Bool). in_word b p.in_word) e ∙ omega (arith, long, begun.so-many);
+          in_mode = begun.in_mode;
+          so_many = ap (λ (b : Bool). in_word b p.in_word) e ∙ omega (arith, long, begun.so_many);
           ok = record {
             mode = mode;
-            few = omega (arith, long, begun.so-many, room_in_word p x.key fine.room (eqb-false x.key 32 e));
-            keys = all_and (is_key m) ks x.key begun.ok.keys (subst (λ (n : ℕ). T (is_key n x.key)) begun.in-mode (is_allowed p x fine e));
+            few = omega (arith, long, begun.so_many, room_in_word p x.key fine.room (eqb-false x.key 32 e));
+            keys = all_and (is_key m) ks x.key begun.ok.keys (subst (λ (n : ℕ). T (is_key n x.key)) begun.in_mode (is_allowed p x fine e));
           };
         }
 

@@ -15,7 +15,7 @@ use Rattle.forms.proofs.StandardList.{standard_list, one_list}
 use Rattle.forms.proofs.RoundTrip.{round_trip}
 use Rattle.forms.proofs.Spells.{Accepts, written_accepts, accepts_written}
 use Rattle.forms.proofs.AcceptedTexts.{shown_spelled, spelled_shown}
-use Rattle.promises.specs.Contracts.{SpellAllows}
+use Rattle.promises.specs.ContractsAllow.{SpellAllows}
 use Rattle.promises.specs.RoundTrip.{SpelledBack, OneList, OnlySyllables}
 use Rattle.promises.proofs.FromNumbers.{wrote_as}
 use Rattle.promises.proofs.AsDefined.{spelled_answer, spelled_output}

@@ -7,7 +7,7 @@ use Rattle.rules.specs.Appending.{OneCase}
 use Rattle.rules.specs.declared.Word.{Word}
 use Rattle.rules.specs.declared.Outcome.TheVariants.{Appended}
 use Rattle.rules.specs.declared.Step.{Step}
-use Rattle.promises.specs.Contracts.{StepAllows}
+use Rattle.promises.specs.ContractsAllow.{StepAllows}
 
 abbrev pub AppendedKey : Type 0
 AppendedKey = (w : Word) (k : ℕ) (r : Step) → StepAllows w k r → step_says r.answer ≡ answered (outcome_numbers Appended) → OneCase (word_of w).state (letter_of_key k) (word_of r.word).state

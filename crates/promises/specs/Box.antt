@@ -127,10 +127,10 @@ pub record FzSpellAllows (mode : ℕ) (text before : List ℕ) (returned value :
   pub post : fz-spell-reads.Post lifetimes args returned exit
 
 -- A call on lent bytes: where they are no record it is refusal 8 with 0, else it is answered or refused by the table.
-pub record OnBytes {R : Type 0} (is_record_law : Bool) (c : Call) (came_back answer : R) (refused : Refusal → R) : Type 0 where
-  pub no_record : T (not is_record_law) → came_back ≡ refused (record { number = 8; value = 0 })
-  pub answers : T is_record_law → NoneHolds (table c) → came_back ≡ answer
-  pub refuses : T is_record_law → (x : Refusal) → FirstOf (table c) x → came_back ≡ refused x
+pub record OnBytes {R : Type 0} (is_record : Bool) (c : Call) (came_back answer : R) (refused : Refusal → R) : Type 0 where
+  pub no_record : T (not is_record) → came_back ≡ refused (record { number = 8; value = 0 })
+  pub answers : T is_record → NoneHolds (table c) → came_back ≡ answer
+  pub refuses : T is_record → (x : Refusal) → FirstOf (table c) x → came_back ≡ refused x
 
 -- the word that lent bytes hold, where they are a record
 abbrev pub held : List ℕ → Word

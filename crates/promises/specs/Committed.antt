@@ -6,7 +6,7 @@ use Rattle.rules.specs.declared.WriteAnswer.{WriteAnswer}
 use Rattle.rules.specs.declared.CommitAnswer.{CommitAnswer}
 use Rattle.rules.specs.AnswersInNumbers.{answered, write_says, commit_says}
 use Rattle.rules.specs.HandedBack.{HandedBack}
-use Rattle.promises.specs.Contracts.{TypeAllows, ShowAllows, CommitAllows, QuestionAllows}
+use Rattle.promises.specs.ContractsAllow.{TypeAllows, ShowAllows, CommitAllows, QuestionAllows}
 use Rattle.promises.specs.EachKey.{AcceptedKeys}
 
 -- Any accepted mode and keys, typed; the word shown into an output of 96 bytes or more; what was written is granted.

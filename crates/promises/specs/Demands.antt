@@ -1,4 +1,4 @@
--- The demands, as one statement over the entries' contracts: `Demands`. Each speaks of any results that the contracts allow (specs/Contracts.antt), and of answers in document 01's numbers (rules/specs/AnswersInNumbers.antt).
+-- The demands, as one statement over the entries' contracts: `Demands`. Each speaks of any results that the contracts allow (specs/ContractsAllow.antt), and of answers in document 01's numbers (rules/specs/AnswersInNumbers.antt).
 use Rattle.std.specs.Prelude.{◌≡◌, List, [], ◌∷◌, ◌++◌, ◌⊎◌, ℕ, length, drop}
 use Rattle.rules.specs.Letters.{telex}
 use Rattle.rules.specs.TakingApart.{verdict}
@@ -28,7 +28,7 @@ use Rattle.rules.specs.declared.Decision.TheVariants.{Keep, Restore}
 use Rattle.lines.specs.declared.Program.{Program}
 use Rattle.lines.specs.declared.Program.TheVariants.{Drill, DrillWithKeys, Spell}
 use Rattle.session.specs.declared.Session.{Session}
-use Rattle.promises.specs.Contracts.{StartAllows, StepAllows, TypeAllows, ShowAllows, PlaceAllows, VerdictAllows, DecisionAllows, CommitAllows, QuestionAllows, SpellAllows, LineAllows, KeyAllows}
+use Rattle.promises.specs.ContractsAllow.{StartAllows, StepAllows, TypeAllows, ShowAllows, PlaceAllows, VerdictAllows, DecisionAllows, CommitAllows, QuestionAllows, SpellAllows, LineAllows, KeyAllows}
 use Rattle.promises.specs.Exactly.{Exactly}
 use Rattle.promises.specs.Box.{BoxAnswers, BoxTight, BoxPossible}
 use Rattle.promises.specs.EachKey.{EveryPrefix, AfterEachKey, AfterTheList, AtEachKey}

@@ -18,7 +18,7 @@ use Rattle.rules.specs.declared.WriteAnswer.{WriteAnswer}
 use Rattle.rules.specs.declared.PlaceAnswer.{PlaceAnswer}
 use Rattle.rules.specs.declared.VerdictAnswer.{VerdictAnswer}
 use Rattle.rules.specs.declared.DecisionAnswer.{DecisionAnswer}
-use Rattle.promises.specs.Contracts.{StartAllows, StepAllows, TypeAllows, ShowAllows, PlaceAllows, VerdictAllows, DecisionAllows}
+use Rattle.promises.specs.ContractsAllow.{StartAllows, StepAllows, TypeAllows, ShowAllows, PlaceAllows, VerdictAllows, DecisionAllows}
 
 -- a word, and what steps by these keys, one after the other, make of it
 pub data Stepped : Word → List ℕ → Word → Type 0 where

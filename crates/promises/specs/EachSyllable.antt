@@ -13,7 +13,7 @@ use Rattle.rules.specs.declared.VerdictAnswer.{VerdictAnswer}
 use Rattle.rules.specs.declared.DecisionAnswer.{DecisionAnswer}
 use Rattle.rules.specs.declared.Decision.TheVariants.{Keep}
 use Rattle.rules.specs.Syllables.{Syllable, open_word, bare_keys, mark_keys, Order}
-use Rattle.promises.specs.Contracts.{TypeAllows, ShowAllows, VerdictAllows, DecisionAllows}
+use Rattle.promises.specs.ContractsAllow.{TypeAllows, ShowAllows, VerdictAllows, DecisionAllows}
 
 -- The result of typing a list is this syllable: its letters in their case, its tone, open; show writes its text where there is room for it, the verdict is 0 and the decision keep.
 pub record IsSyllable (r : TypeAll) (w : Letters) (t : ℕ) : Type 0 where

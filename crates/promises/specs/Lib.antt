@@ -1,4 +1,4 @@
-pub mod Contracts
+pub mod ContractsAllow
 pub mod Exactly
 pub mod Box
 pub mod TwoOrders

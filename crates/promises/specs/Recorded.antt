@@ -29,7 +29,7 @@ use Rattle.reader.specs.declared.Reader.{Reader}
 use Rattle.replay.specs.Replays.{words_from, milliseconds, nothing, summary}
 use Rattle.replay.specs.declared.Summary.{Summary}
 use Rattle.replay.specs.declared.ReplayAnswer.{ReplayAnswer}
-use Rattle.promises.specs.Contracts.{TypeAllows, ShowAllows, CommitAllows}
+use Rattle.promises.specs.ContractsAllow.{TypeAllows, ShowAllows, CommitAllows}
 use Rattle.promises.specs.RecordedContracts.{NumberAllows, WrittenAllows, BeginAllows, PressAllows, RecordAllows, NextAllows, ReplayAllows}
 
 -- A number below 2 to the 32, written, is read wherever its groups stand, whatever is behind them; and in so many groups.

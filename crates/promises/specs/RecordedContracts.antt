@@ -70,7 +70,7 @@ pub record RecordAllows (m : ℕ) (presses before : List ℕ) (r : WriteAnswer) 
   pub at_exit : exit.1.1.0.now ≡ after
   pub post : write-reads.Post lifetimes args r exit
 
--- a step of a reader: the reader before and after. Its function is proved by hand, so that the kit has no text of its contract; `NextInPost` is that text.
+-- a step of a reader: the reader before and after. `NextInPost` is the text of its contract.
 pub record NextAllows (before : Reader) (p : Progress) (t : Stepped) (after : Reader) : Type 0 where
   pub lifetimes : Lfts 2
   pub args : Args next-in.signature lifetimes

@@ -9,7 +9,7 @@ use Rattle.rules.specs.AnswersInNumbers.{answered, write_says}
 use Rattle.rules.specs.declared.TypeAll.{TypeAll}
 use Rattle.rules.specs.declared.WriteAnswer.{WriteAnswer}
 use Rattle.rules.specs.Syllables.{Syllable, open_word, ShownBySyllable}
-use Rattle.promises.specs.Contracts.{TypeAllows, SpellAllows}
+use Rattle.promises.specs.ContractsAllow.{TypeAllows, SpellAllows}
 use Rattle.promises.specs.EachSyllable.{IsSyllable}
 
 -- What is promised of the speller's result on the text of a syllable.

@@ -16,7 +16,7 @@ use Rattle.rules.specs.declared.WriteAnswer.{WriteAnswer}
 use Rattle.rules.specs.declared.PlaceAnswer.{PlaceAnswer}
 use Rattle.rules.specs.declared.VerdictAnswer.{VerdictAnswer}
 use Rattle.rules.specs.declared.DecisionAnswer.{DecisionAnswer}
-use Rattle.promises.specs.Contracts.{StepAllows, ShowAllows, PlaceAllows, VerdictAllows, DecisionAllows}
+use Rattle.promises.specs.ContractsAllow.{StepAllows, ShowAllows, PlaceAllows, VerdictAllows, DecisionAllows}
 
 -- The families: tone with clear; vowel shape; stroke. A key without a role is of none.
 abbrev pub differ : Role → Role → Bool

@@ -1,11 +1,13 @@
-// A reader: it holds a lent recording, and the place of the next step. Thin functions over `recording`, which works on slice and number; each is proved by a walk.
+// A reader: it holds a lent recording, and the place of the next step. Thin functions over `recording`, which works on slice and number.
+#![tactic(auto)]
+
 ghost use Rattle.std.specs.Prelude.{◌≡◌};
 ghost use Rattle.recording.specs.Recordings.{begin as begin_of};
 ghost use Rattle.reader.specs.Standing.{step_from, place_after};
 
 use recording::{BeginAnswer, Progress, Stepped};
 
-#[derive(Drop)]
+#[derive(Clone, Copy)]
 pub struct Reader<'a> {
     pub recording: &'a [u8],
     pub at: usize,

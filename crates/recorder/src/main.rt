@@ -1,11 +1,14 @@
 // The recorder: lines that a person can write, from standard input, made into the recording of a drill on standard output.
 // The first line is T or V. A further line is milliseconds, or milliseconds, a space and keys; empty lines are passed over.
 // What is wrong is said on standard error, and then nothing is written.
+#![tactic(auto)]
+
 ghost use Rattle.std.specs.Prelude.{◌≡◌, min};
 
-use libc::{STDERR_FILENO, STDIN_FILENO, STDOUT_FILENO};
 use recording::SPACE;
 use rules::{Refusal, Word, WriteAnswer};
+use std::io::{ErrorKind, Read};
+use std::process::ExitCode;
 
 const BLOCK: usize = 16384;
 
@@ -18,12 +21,16 @@ const ROOM: usize = 1 + 6 * MOST;
 // Milliseconds from here on are refused by the writer, however many there are.
 const TOO_LONG: u64 = 4294967296;
 
+// The exit status where nobody reads the output any more: a shell's for a program that SIGPIPE ended. The signal itself is
+// passed over before main begins, and the write fails.
+const UNREAD: u8 = 141;
+
 const NEWLINE: u8 = b'\n';
 
 const CARRIAGE_RETURN: u8 = b'\r';
 
 // How much of a line has been read, or what is wrong with it.
-#[derive(Drop)]
+#[derive(Clone, Copy)]
 enum Stage {
     NoMode,
     ModeRead,
@@ -34,7 +41,7 @@ enum Stage {
     Wrong(Fault),
 }
 
-#[derive(Drop)]
+#[derive(Clone, Copy)]
 enum Fault {
     NotAMode,
     NotATime,
@@ -44,7 +51,7 @@ enum Fault {
 
 // The drill so far: its mode and how many keys; the line, its stage and its milliseconds; and whether a carriage return waits, which
 // is passed over where the line ends behind it.
-#[derive(Drop)]
+#[derive(Clone, Copy)]
 struct Drill {
     mode: u8,
     count: usize,
@@ -55,25 +62,25 @@ struct Drill {
 }
 
 // What follows a read: more of the input, its end, or a failure.
-#[derive(Drop)]
+#[derive(Clone, Copy)]
 enum Next {
     More,
     Ended,
     Failed,
 }
 
-#[derive(Drop)]
+#[derive(Clone, Copy)]
 struct Passed {
     drill: Drill,
     next: Next,
 }
 
-fn say(text: &[u8]) {
-    io::write_all(STDERR_FILENO, text);
+fn say(rt: &HostRuntime, text: &[u8]) {
+    let _ = rt.stderr().write_all(text);
 }
 
-fn say_number(n: u64) {
-    io::print_decimal(STDERR_FILENO, n);
+fn say_number(rt: &HostRuntime, n: u64) {
+    let _ = rt.stderr().print(n);
 }
 
 fn least(a: usize, b: usize) -> usize
@@ -249,22 +256,26 @@ fn feed(d: Drill, block: &[u8], presses: &mut [u64; MOST], lines: &mut [u64; MOS
 }
 
 // One read, and what it brought fed.
-fn pass(d: Drill, block: &mut [u8], presses: &mut [u64; MOST], lines: &mut [u64; MOST]) -> Passed {
-    let got = libc::read(STDIN_FILENO, block);
-    if got < 0 {
-        say(b"record: cannot read\n");
+fn pass(
+    rt: &HostRuntime,
+    d: Drill,
+    block: &mut [u8],
+    presses: &mut [u64; MOST],
+    lines: &mut [u64; MOST],
+) -> Passed {
+    let Ok(n) = rt.stdin().read(block) else {
+        say(rt, b"record: cannot read\n");
         return Passed {
             drill: d,
             next: Next::Failed,
         };
-    }
-    if got == 0 {
+    };
+    if n == 0 {
         return Passed {
             drill: ended(d, presses, lines),
             next: Next::Ended,
         };
     }
-    let n = io::count(got, block);
     let fed = feed(d, &block[..n], presses, lines);
     let next = if is_wrong(fed) {
         Next::Ended
@@ -278,7 +289,7 @@ fn pass(d: Drill, block: &mut [u8], presses: &mut [u64; MOST], lines: &mut [u64;
 }
 
 // The whole input read. Nothing says that it ends, so the loop counts its turns down, from a number that no run uses up.
-fn read_all(presses: &mut [u64; MOST], lines: &mut [u64; MOST]) -> Passed {
+fn read_all(rt: &HostRuntime, presses: &mut [u64; MOST], lines: &mut [u64; MOST]) -> Passed {
     let mut block = [0; BLOCK];
     let mut drill = Drill {
         mode: Word::TELEX,
@@ -288,13 +299,11 @@ fn read_all(presses: &mut [u64; MOST], lines: &mut [u64; MOST]) -> Passed {
         milliseconds: 0,
         returned: false,
     };
-    let mut turns = u64::MAX;
-    while turns > 0 {
-        let read = pass(drill, &mut block, presses, lines);
+    for _ in 0..u64::MAX {
+        let read = pass(rt, drill, &mut block, presses, lines);
         let next = read.next;
         if let Next::More = next {
             drill = read.drill;
-            turns -= 1;
         } else {
             return read;
         }
@@ -305,77 +314,98 @@ fn read_all(presses: &mut [u64; MOST], lines: &mut [u64; MOST]) -> Passed {
     }
 }
 
-fn say_fault(line: u64, fault: Fault) {
-    say(b"record: line ");
-    say_number(line);
+fn say_fault(rt: &HostRuntime, line: u64, fault: Fault) {
+    say(rt, b"record: line ");
+    say_number(rt, line);
     match fault {
-        Fault::NotAMode => say(b": the first line is T or V, for Telex or VNI, and nothing else\n"),
-        Fault::NotATime => say(b": a line is milliseconds, or milliseconds, a space and keys\n"),
+        Fault::NotAMode => say(
+            rt,
+            b": the first line is T or V, for Telex or VNI, and nothing else\n",
+        ),
+        Fault::NotATime => say(
+            rt,
+            b": a line is milliseconds, or milliseconds, a space and keys\n",
+        ),
         Fault::NoKeys => say(
+            rt,
             b": no key stands behind the space; milliseconds alone, without it, are the space\n",
         ),
-        Fault::TooMany => say(b": more than 16384 keys, spaces among them\n"),
+        Fault::TooMany => say(rt, b": more than 16384 keys, spaces among them\n"),
     }
 }
 
 // What the writer refuses, with the place of the key among all keys, from 0, and its line.
-fn say_refused(r: Refusal, lines: &[u64; MOST]) {
+fn say_refused(rt: &HostRuntime, r: Refusal, lines: &[u64; MOST]) {
     let number = r.number;
     let place = r.value;
-    say(b"record: ! ");
-    say_number(number as u64);
-    say(b" ");
-    say_number(place as u64);
+    say(rt, b"record: ! ");
+    say_number(rt, number as u64);
+    say(rt, b" ");
+    say_number(rt, place as u64);
     if MOST <= place {
-        say(b"\n");
+        say(rt, b"\n");
         return;
     }
-    say(b": line ");
-    say_number(lines[place]);
-    say(b", key ");
-    say_number(place as u64);
+    say(rt, b": line ");
+    say_number(rt, lines[place]);
+    say(rt, b", key ");
+    say_number(rt, place as u64);
     match number {
-        2 => say(b" counted from 0: more than 32 keys in a word\n"),
-        3 => say(b" counted from 0: it is not allowed in this mode\n"),
-        11 => say(b" counted from 0: more than 4294967295 milliseconds so far\n"),
-        _ => say(b" counted from 0\n"),
+        2 => say(rt, b" counted from 0: more than 32 keys in a word\n"),
+        3 => say(rt, b" counted from 0: it is not allowed in this mode\n"),
+        11 => say(
+            rt,
+            b" counted from 0: more than 4294967295 milliseconds so far\n",
+        ),
+        _ => say(rt, b" counted from 0\n"),
     }
 }
 
-fn write(d: Drill, presses: &[u64; MOST], lines: &[u64; MOST]) {
+// The recording, written; a failure where it could not be. Nothing is said of it where nobody reads any more.
+fn write(rt: &HostRuntime, d: Drill, presses: &[u64; MOST], lines: &[u64; MOST]) -> ExitCode {
     let n = least(d.count, MOST);
     let all = &presses[..];
     let mut out = [0; ROOM];
     let answer = recording::write(d.mode, &all[0..n], &mut out);
     match answer {
         WriteAnswer::Wrote(written) => {
-            if !io::write_all(STDOUT_FILENO, &out[0..written]) {
-                say(b"record: cannot write\n");
+            let Err(e) = rt.stdout().write_all(&out[0..written]) else {
+                return ExitCode::SUCCESS;
+            };
+            if e.kind() == ErrorKind::BrokenPipe {
+                return ExitCode::from(UNREAD);
             }
+            say(rt, b"record: cannot write\n");
+            ExitCode::FAILURE
         }
-        WriteAnswer::Refused(r) => say_refused(r, lines),
+        WriteAnswer::Refused(r) => {
+            say_refused(rt, r, lines);
+            ExitCode::SUCCESS
+        }
     }
 }
 
-fn finish(d: Drill, presses: &[u64; MOST], lines: &[u64; MOST]) {
+fn finish(rt: &HostRuntime, d: Drill, presses: &[u64; MOST], lines: &[u64; MOST]) -> ExitCode {
     let stage = d.stage;
     if let Stage::Wrong(fault) = stage {
-        say_fault(d.line, fault);
-        return;
+        say_fault(rt, d.line, fault);
+        return ExitCode::SUCCESS;
     }
     if let Stage::NoMode = stage {
-        say_fault(d.line, Fault::NotAMode);
-        return;
+        say_fault(rt, d.line, Fault::NotAMode);
+        return ExitCode::SUCCESS;
     }
-    write(d, presses, lines);
+    write(rt, d, presses, lines)
 }
 
-fn main() {
+// A failure where something could not be read or written. A drill that is refused is none, and said on standard error.
+fn main(rt: HostRuntime) -> ExitCode {
     let mut presses = [0; MOST];
     let mut lines = [0; MOST];
-    let read = read_all(&mut presses, &mut lines);
+    let read = read_all(&rt, &mut presses, &mut lines);
     let next = read.next;
     if let Next::Ended = next {
-        finish(read.drill, &presses, &lines);
+        return finish(&rt, read.drill, &presses, &lines);
     }
+    ExitCode::FAILURE
 }

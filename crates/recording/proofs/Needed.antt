@@ -1,18 +1,16 @@
 -- A drill in its bytes: how many each press takes, that its time is short, and what is put behind what.
 use mathlib.Core.Path.{◌≡◌, sym, ap, ◌∙◌}
-use mathlib.Core.List.{List, [], ◌∷◌, ◌++◌, map, append_assoc, append-nil}
-use Prim.Native.Nat.{ℕ, zero, suc, ◌+◌, ◌-◌, ◌/◌, ◌%◌, ◌≤◌, ◌<◌}
-use native.Mathlib.Nat.{sub-zero}
+use mathlib.Core.List.{List, [], ◌∷◌, ◌++◌, map, append_assoc}
+use Prim.Native.Nat.{ℕ, zero, suc, ◌+◌, ◌/◌, ◌%◌, ◌≤◌, ◌<◌}
 use native.Mathlib.Numerals.{add-one}
 use native.Mathlib.Omega.{arith}
 use lib.Dec.{T, ltb→lt}
 use lib.Ieee.Fits.{and_l, and_r}
-use lib.ListN.{length, take, drop, get_or, take-append-drop, length-append, length-take, length-drop, drop_of_length-le}
-use lib.Seq.{take_at, take_all, take-length, take-append_seam, drop_at, drop-drop, drop-cons}
+use lib.ListN.{length, take, drop, get_or, take-append-drop, length-append, length-take, drop_of_length-le}
+use lib.Seq.{take_at, drop_at, drop-drop, drop-cons}
 use Rattle.rules.specs.TheWord.{at_front}
 use Rattle.rules.specs.Refusals.{all}
-use Rattle.groups.specs.Numbers.{limit, written, held}
-use Rattle.groups.specs.declared.Groups.{Groups}
+use Rattle.groups.specs.Numbers.{limit, written}
 use Rattle.recording.specs.Drills.{press_in, short_time, presses_bytes}
 
 -- a text at a place of an output, and the place behind it
@@ -21,34 +19,6 @@ put_at text at out = take at out ++ at_front text (drop at out)
 
 abbrev pub Puts : List ℕ → (out after : List ℕ) (at next : ℕ) → Type 0
 Puts text out after at next = (next ≡ at + length text) × (after ≡ put_at text at out)
-
--- what is left of an output when a text was copied to its part from a place on
-pub copied_there : (text out dst : List ℕ) (at : ℕ) → dst ≡ take (length text) text ++ drop (length text) (take (length out - at) (drop at out))
-    → take at out ++ (dst ++ drop (length out - at) (drop at out)) ≡ put_at text at out
-copied_there text out dst at q =
-    let whole : take (length out - at) (drop at out) ≡ drop at out = take_all (length out - at) (drop at out) (simp length-drop (omega arith)) in
-    let none : drop (length out - at) (drop at out) ≡ [] = drop_of_length-le (drop at out) {i = length out - at} (simp length-drop (omega arith)) in
-    simp (q, whole, none, take-length, append-nil)
-
--- the groups of a number, copied to a place that has room for them
-module _ (text out : List ℕ) (at : ℕ) (g : Groups) (e : g ≡ held text) (room : at + length text ≤ length out) where
-  abbrev copied : List ℕ
-  copied = take (g.count - 0) g.bytes
-
-  abbrev behind : List ℕ
-  behind = take (length out - at) (drop at out)
-
-  pub is_within : g.count ≤ length g.bytes
-  is_within = simp (e, length-append) (omega arith)
-
-  is_text : copied ≡ text
-  is_text = simp (e, sub-zero, take-append_seam)
-
-  pub is_room : length copied ≤ length behind
-  is_room = simp (is_text, length-take, length-drop) (omega arith)
-
-  pub is_put : (n : ℕ) (dst : List ℕ) → n ≡ length copied → dst ≡ take (length copied) copied ++ drop (length copied) behind → Puts text out (take at out ++ (dst ++ drop (length out - at) (drop at out))) at (at + n)
-  is_put n dst p q = (simp (p, is_text), copied_there text out dst at (q ∙ ap (λ (l : List ℕ). take (length l) l ++ drop (length l) behind) is_text))
 
 -- another text behind it
 pub put_more : (p q out after : List ℕ) (at next : ℕ) → at + length p ≤ length out → Puts p out after at next → put_at q next after ≡ put_at (p ++ q) at out

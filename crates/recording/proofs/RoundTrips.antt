@@ -14,7 +14,7 @@ use Rattle.rules.specs.Refusals.{wrong_mode}
 use Rattle.groups.specs.Numbers.{number, written, answer_of, limit, AllBytes}
 use Rattle.groups.specs.declared.Number.{Number}
 use Rattle.groups.proofs.BothWays.{number_back, written_some, written_back}
-use Rattle.recording.specs.Recordings.{press, none_yet, onward, checked, step_at, mode_if, mode_read, begin, Reading, broken, presses, before, and_then, refused_at, drill, in_mode, recorded_after, recorded}
+use Rattle.recording.specs.Recordings.{none_yet, onward, checked, step_at, mode_if, mode_read, begin, Reading, broken, presses, before, and_then, refused_at, drill, in_mode, recorded_after, recorded}
 use Rattle.recording.specs.Drills.{press_bytes, presses_bytes, drill_bytes, unless, checked_from}
 use Rattle.recording.specs.declared.Progress.{Progress}
 use Rattle.recording.specs.declared.KeyPress.{KeyPress}

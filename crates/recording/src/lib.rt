@@ -1,4 +1,6 @@
 // A recorded drill: the mode, then for each key the milliseconds since the last key and the key, all as numbers in groups. One step of its reading, and its writer.
+#![tactic(auto)]
+
 ghost use Rattle.std.specs.Prelude.{◌≡◌, false, ◌++◌, map, ◌+◌, ◌≤◌, T, leb, length, take, drop};
 ghost use Rattle.rules.specs.TheWord.{at_front};
 ghost use Rattle.rules.specs.KeyRoles.{is_key as is_key_of};
@@ -274,7 +276,8 @@ fn put_number(n: u32, out: &mut [u8], at: usize) -> usize
     let groups = groups::written(n);
     let bytes = groups.bytes;
     let count = groups.count;
-    at + bytes::copy(&bytes[0..count], &mut out[at..])
+    out[at..at + count].copy_from_slice(&bytes[0..count]);
+    at + count
 }
 
 // A drill at the front of an output that has room for it.

@@ -91,7 +91,10 @@ fn committed_text(
 {
     match decision {
         Decision::Keep => show::in_room(letters, tone, line),
-        Decision::Restore => bytes::copy(keys, line),
+        Decision::Restore => {
+            line[0..keys.len()].copy_from_slice(keys);
+            keys.len()
+        }
     }
 }
 
@@ -190,7 +193,7 @@ fn put_line(line: &[u8], out: &mut [u8], at: usize)
     if out.len() - at < line.len() {
         return;
     }
-    bytes::copy(line, &mut out[at..]);
+    out[at..at + line.len()].copy_from_slice(line);
 }
 
 // A word of allowed keys: typed, committed, and counted.

@@ -1,6 +1,7 @@
 // The speller: each line of standard input, a shown syllable, answered on standard output by its keys.
 use lines::Program;
+use std::process::ExitCode;
 
-fn main() {
-    filter::run(Program::Spell);
+fn main(rt: HostRuntime) -> ExitCode {
+    filter::run(&rt, Program::Spell)
 }

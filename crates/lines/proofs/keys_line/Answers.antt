@@ -1,0 +1,29 @@
+-- `lines::keys_line` meets its contract: the refusal's line, or the line of the word that the keys make.
+use mathlib.Core.Path.{sym, ap, ◌∙◌}
+use borrow.Author.Rules.{rules}
+use Rattle.rules.specs.TheWord.{word_of}
+use Rattle.rules.specs.Refusals.{out_of_range}
+use Rattle.rules.specs.declared.TypeAll.{TypeAll}
+use Rattle.rules.proofs.NotRefused.{typed_in_range}
+use Rattle.lines.specs.Programs.{word_line_of}
+use Rattle.lines.proofs.Columns.{as_part}
+use Rattle.lines.proofs.Words.{refused_keys, small_value, typed_keys}
+use Rattle.lines.proofs.keys_line.Goals as goal
+
+pub refused_line-requires : goal.refused_line-requires
+refused_line-requires c = (c.requires, small_value c.args.mode c.args.keys.now _ (sym (ap (λ (t : TypeAll). t.answer) c.type_all-all.ensures) ∙ c.in-Refused.is))
+
+pub returns-in-Refused : goal.returns-in-Refused
+returns-in-Refused c = as_part (refused_keys c.args.mode c.args.keys.now (word_line_of c.args.keyed) _ (sym (ap (λ (t : TypeAll). t.answer) c.type_all-all.ensures) ∙ c.in-Refused.is)) c.refused_line.ensures
+
+pub word_line-requires : goal.word_line-requires
+word_line-requires c =
+    let e = c.type_all-all.ensures in
+    let typed = sym (ap (λ (t : TypeAll). t.answer) e) ∙ c.in_default.is in
+    (c.requires, ap (λ (t : TypeAll). out_of_range t.word) e ∙ typed_in_range c.args.mode c.args.keys.now typed)
+
+pub returns : goal.returns
+returns c =
+    let e = c.type_all-all.ensures in
+    let typed = sym (ap (λ (t : TypeAll). t.answer) e) ∙ c.in_default.is in
+    as_part (ap (λ (t : TypeAll). word_line_of c.args.keyed (word_of t.word)) e ∙ typed_keys c.args.mode c.args.keys.now (word_line_of c.args.keyed) typed) c.word_line.ensures

@@ -1,0 +1,22 @@
+-- `lines::place_column` meets its contract: a hyphen or the number.
+use mathlib.Core.Path.{sym, ap, subst}
+use mathlib.Core.List.{[], ◌∷◌, ◌++◌}
+use borrow.Author.Rules.{rules}
+use Rattle.rules.specs.Drill.{place_column}
+use Rattle.rules.specs.declared.Place.{Place}
+use Rattle.lines.specs.Appending.{SmallPlace}
+use Rattle.lines.proofs.Columns.{as_part}
+use Rattle.lines.proofs.place_column.Goals as goal
+
+pub returns-in_default : goal.returns-in_default
+returns-in_default c =
+    let args = c.args in
+    as_part (sym (ap (λ (p : Place). place_column p ++ (args.end ∷ [])) c.in_default.is)) c.byte_column.ensures
+
+pub overflow_cast-n : goal.overflow_cast-n
+overflow_cast-n c = record { fits = subst SmallPlace c.in-At.is c.requires.1 }
+
+pub returns : goal.returns
+returns c =
+    let args = c.args in
+    as_part (sym (ap (λ (p : Place). place_column p ++ (args.end ∷ [])) c.in-At.is)) c.number_column.ensures

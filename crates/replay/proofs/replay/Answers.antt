@@ -1,0 +1,18 @@
+-- `replay::replay` meets its contract: refused for its mode, or replayed behind it.
+use mathlib.Core.Path.{sym, ap, ◌∙◌}
+use borrow.Author.Rules.{rules}
+use Rattle.replay.specs.Replays.{Replayed}
+use Rattle.replay.proofs.Wholes.{refused_begin}
+use Rattle.replay.proofs.replay.Goals as goal
+
+pub replay_from-requires : goal.replay_from-requires
+replay_from-requires c = sym c.begin-mode.ensures ∙ c.in-Begins.is
+
+pub returns-in-Refused : goal.returns-in-Refused
+returns-in-Refused c =
+    let a = c.args in
+    let e = refused_begin a.recording.now a.out.now c.in-Refused.refusal (sym c.begin-mode.ensures ∙ c.in-Refused.is) in
+    (c.refused.ensures ∙ sym (ap (λ (r : Replayed). r.result) e), sym (ap (λ (r : Replayed). r.output) e))
+
+pub returns-in-Begins : goal.returns-in-Begins
+returns-in-Begins c = c.replay_from.ensures

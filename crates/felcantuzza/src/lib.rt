@@ -1,6 +1,8 @@
 // The calls that the box links, as felcantuzza_c exports them. Each takes numbers, and lent bytes and numbers, alone: no struct, enum or bool crosses.
 // It returns 0 where it is answered, else the refusal's number; `value` then holds the answer's number, or the refusal's, and is always written.
 // A word's record is lent as the 169 bytes of crate `layout`; bytes that are no record are refusal 8 with 0. A refused call leaves every lent byte as it was, and every number that is lent for a recording.
+#![tactic(auto)]
+
 ghost use Rattle.std.specs.Prelude.{◌≡◌};
 ghost use Rattle.rules.specs.AnswersInNumbers.{outcome_numbers, place_numbers, decision_number as decision_number_of};
 ghost use Rattle.recording.specs.Drills.{number_of};

@@ -1,6 +1,5 @@
 -- `felcantuzza::act_number` meets its contract: each arm is its kind.
 use mathlib.Core.Path.{sym, ap}
-use borrow.Author.Rules.{rules}
 use Rattle.rules.specs.AnswersInNumbers.{outcome_numbers}
 use Rattle.rules.specs.declared.Act.{Act}
 use Rattle.rules.specs.declared.Outcome.TheVariants.{Acted}

@@ -1,5 +1,4 @@
 -- `felcantuzza::fz_begin` meets its contract: the mode and the first place, or refused.
-use borrow.Author.Rules.{rules}
 use Rattle.felcantuzza.specs.Calls as Calls
 use Rattle.felcantuzza.specs.Recordings as Recordings
 use Rattle.felcantuzza.proofs.CallAnswers.{tells, refuses}

@@ -1,5 +1,4 @@
 -- `felcantuzza::fz_commit` meets its contract: the ruling, as numbers.
-use borrow.Author.Rules.{rules}
 use Rattle.felcantuzza.specs.Calls as Calls
 use Rattle.felcantuzza.proofs.CallAnswers.{tells, refuses, committed}
 use Rattle.felcantuzza.proofs.fz_commit.Goals as goal

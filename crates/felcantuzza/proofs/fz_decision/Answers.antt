@@ -1,6 +1,5 @@
 -- `felcantuzza::fz_decision` meets its contract: no record, answered or refused.
 use mathlib.Core.Path.{◌∙◌}
-use borrow.Author.Rules.{rules}
 use borrow.Author.Tests.{not-true, not-false}
 use Rattle.felcantuzza.specs.Calls as Calls
 use Rattle.felcantuzza.specs.Calls.{only_one}

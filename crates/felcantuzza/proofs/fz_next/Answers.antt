@@ -1,6 +1,5 @@
 -- `felcantuzza::fz_next` meets its contract: a press, the end or refused; where it then stands.
 use mathlib.Core.Path.{◌∙◌}
-use borrow.Author.Rules.{rules}
 use Rattle.felcantuzza.specs.Calls as Calls
 use Rattle.felcantuzza.specs.Recordings as Recordings
 use Rattle.felcantuzza.proofs.CallAnswers.{tells, refuses}

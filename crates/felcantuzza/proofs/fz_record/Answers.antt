@@ -1,6 +1,5 @@
 -- `felcantuzza::fz_record` meets its contract: the writer's answer, as numbers.
 use mathlib.Core.Path.{◌∙◌}
-use borrow.Author.Rules.{rules}
 use Rattle.felcantuzza.specs.Calls as Calls
 use Rattle.felcantuzza.specs.Recordings as Recordings
 use Rattle.felcantuzza.proofs.CallAnswers.{tells, refuses, changed, unchanged}

@@ -1,6 +1,5 @@
 -- `felcantuzza::fz_replay` meets its contract: the replay's answer, as numbers; the summary is written where it is answered.
 use mathlib.Core.Path.{◌∙◌}
-use borrow.Author.Rules.{rules}
 use Rattle.felcantuzza.specs.Calls as Calls
 use Rattle.felcantuzza.specs.Recordings as Recordings
 use Rattle.felcantuzza.proofs.CallAnswers.{tells, refuses, changed, unchanged}

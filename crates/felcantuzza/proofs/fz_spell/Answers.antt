@@ -1,5 +1,4 @@
 -- `felcantuzza::fz_spell` meets its contract: the speller's answer, as numbers.
-use borrow.Author.Rules.{rules}
 use Rattle.felcantuzza.specs.Calls as Calls
 use Rattle.felcantuzza.proofs.CallAnswers.{tells, refuses, spelled}
 use Rattle.felcantuzza.proofs.fz_spell.Goals as goal

@@ -1,6 +1,5 @@
 -- `felcantuzza::fz_start` meets its contract: no room for a record, started or refused.
 use mathlib.Core.Path.{ap, ◌∙◌}
-use borrow.Author.Rules.{rules}
 use Rattle.rules.specs.declared.Start.{Start}
 use Rattle.layout.specs.Places.{record_written}
 use Rattle.felcantuzza.specs.Calls as Calls

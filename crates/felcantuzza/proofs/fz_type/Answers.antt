@@ -1,6 +1,5 @@
 -- `felcantuzza::fz_type` meets its contract: typed where the bytes lie, or refused.
 use mathlib.Core.Path.{◌∙◌}
-use borrow.Author.Rules.{rules}
 use Rattle.felcantuzza.specs.Calls as Calls
 use Rattle.felcantuzza.proofs.CallAnswers.{tells, refuses, typed, typed_bytes}
 use Rattle.felcantuzza.proofs.fz_type.Goals as goal

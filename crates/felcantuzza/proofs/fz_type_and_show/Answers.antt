@@ -1,6 +1,5 @@
 -- `felcantuzza::fz_type_and_show` meets its contract: into a short output by its own function; else typed where the bytes lie and shown, or refused.
 use mathlib.Core.Path.{refl, sym, ap, ◌∙◌}
-use borrow.Author.Rules.{rules}
 use Rattle.layout.specs.Places.{as_record, record_written}
 use Rattle.step.proofs.StepsAt.{as_it_was, was_record, now_written}
 use Rattle.press.specs.StepAndShow.{step_and_show}

@@ -1,5 +1,4 @@
 -- `felcantuzza::fz_verdict` meets its contract: no record, answered or refused.
-use borrow.Author.Rules.{rules}
 use borrow.Author.Tests.{not-true, not-false}
 use Rattle.felcantuzza.specs.Calls as Calls
 use Rattle.felcantuzza.specs.Calls.{only_one}

@@ -1,6 +1,5 @@
 -- `felcantuzza::type_and_show_short` meets its contract: no record, typed and shown, or refused.
 use mathlib.Core.Path.{sym, ap, ◌∙◌}
-use borrow.Author.Rules.{rules}
 use borrow.Author.Tests.{not-true, not-false}
 use Rattle.press.specs.declared.StepShown.{StepShown}
 use Rattle.felcantuzza.specs.Calls as Calls

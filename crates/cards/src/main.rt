@@ -1,5 +1,7 @@
 // The cards: each drill line of its input stepped key by key, and every column of the word written: shown text, commit, verdict, tone, place,
 // decision, the mark, the number of letters, and how many keys acted, undid and were appended. Of a refused line, the refusal.
+#![tactic(auto)]
+
 ghost use Rattle.std.specs.Prelude.{◌≤◌, length};
 
 use rules::{

@@ -1,4 +1,6 @@
 // The classes of the base letters: vowel, initial consonant, final consonant, stop. One table of 26 entries answers for all four.
+#![tactic(auto)]
+
 ghost use Rattle.std.specs.Prelude.{◌≡◌};
 ghost use Rattle.rules.specs.Letters.{one_of};
 ghost use Rattle.rules.specs.TakingApart.{vowel, initials, finals, stop};

@@ -1,4 +1,6 @@
 // Commit: the shown text or the raw keys, a part of what was lent, according to the decision.
+#![tactic(auto)]
+
 ghost use Rattle.std.specs.Prelude.{◌≡◌, false};
 ghost use Rattle.rules.specs.TheWord.{word_of};
 ghost use Rattle.rules.specs.Refusals.{same_bytes, out_of_range};

@@ -1,4 +1,6 @@
 // The drill: each line of standard input answered on standard output, behind a header.
+#![tactic(auto)]
+
 use lines::Program;
 use std::process::ExitCode;
 

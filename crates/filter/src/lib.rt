@@ -1,5 +1,7 @@
 // A program of lines: each line of standard input answered on standard output, behind the program's header.
 // Reads, feeds and writes; a failed read or write ends the run, with what was answered so far written out and a message on standard error.
+#![tactic(auto)]
+
 ghost use Rattle.std.specs.Prelude.{◌≡◌, ◌≤◌, min, length, take, IfOk, OnErr};
 ghost use Rattle.rules.specs.TheWord.{at_front};
 ghost use Rattle.stream.specs.Feeding.{feeding, room_for, fed_of};

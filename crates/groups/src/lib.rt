@@ -1,4 +1,6 @@
 // The numbers of a recording: groups of seven bits, the low group first, the top bit set when more follow.
+#![tactic(auto)]
+
 ghost use Rattle.std.specs.Prelude.{◌≡◌, ◌<◌, ◌≤◌, drop};
 ghost use Rattle.std.proofs.Math.Option.{some};
 ghost use Rattle.groups.specs.Numbers.{written as written_of, in_front as in_front_of, number_in, number, answer_of, held};

@@ -1,4 +1,6 @@
 // The keys: which bytes are keys in a mode, what a key is for, and the letter that it is when it is appended.
+#![tactic(auto)]
+
 ghost use Rattle.std.specs.Prelude.{◌≡◌};
 ghost use Rattle.rules.specs.TheWord.{number};
 ghost use Rattle.rules.specs.KeyRoles.{is_small as is_small_of, is_capital as is_capital_of, is_digit as is_digit_of, is_key as is_key_of, lower as lower_of, letter_of_key as letter_of_key_of, role_in, telex_roles, vni_roles, role as role_of};

@@ -1,14 +1,14 @@
 -- The answers of read and write by their tests; the record that read finds is that of the bytes, and the bytes that write leaves are the record's.
 use mathlib.Core.Path.{◌≡◌, refl, sym, ap, ap₂, ◌∙◌}
 use mathlib.Core.Bool.{Bool, true, false, ◌&&◌, ◌||◌}
-use mathlib.Core.List.{List, [], ◌∷◌, ◌++◌, append-nil, append_assoc}
+use mathlib.Core.List.{List, [], ◌∷◌, ◌++◌, append_assoc}
 use Prim.Native.Nat.{ℕ, zero, suc, ◌+◌, ◌≤◌, ◌<◌}
 use native.Mathlib.Omega.{arith}
 use borrow.Author.Tests.{eq-eqb, ne_eqb}
 use borrow.Rule.Slice.PartMut.{put_mid}
 use mir.Val.{bool_byte}
-use lib.ListN.{length, take, drop, set, replicate, length-append, length-take, length-drop, length-set, drop_of_length-le}
-use lib.Seq.{take-length, take_at, drop_at, drop-cons, drop-drop, set_at}
+use lib.ListN.{length, drop, set, length-append, length-take, length-drop, length-set, drop_of_length-le}
+use lib.Seq.{take_at, drop_at, drop-cons, drop-drop, set_at}
 use Rattle.rules.specs.declared.Word.{Word}
 use Rattle.rules.proofs.StaysInRange.{Whole}
 use Rattle.layout.proofs.Pairs.{length_pairs}

@@ -1,4 +1,6 @@
 // The word's record as 169 bytes at fixed places, as C lends it: no struct and no bool crosses.
+#![tactic(auto)]
+
 ghost use Rattle.std.specs.Prelude.{◌≡◌, ◌+◌, ◌*◌, ◌/◌, ◌%◌, length};
 ghost use Rattle.layout.specs.Places.{pairs, numbers, is_long, no_record as no_record_of, as_record, record_written, letters_put};
 

@@ -1,4 +1,6 @@
 // The alphabet in code: which numbers are letters, the code point of a letter, and the letter that stands at a place of a text.
+#![tactic(auto)]
+
 ghost use Rattle.std.specs.Prelude.{◌≡◌, ◌<◌, ◌≤◌};
 ghost use Rattle.rules.specs.TheWord.{letter as letter_of_number};
 ghost use Rattle.rules.specs.KeyRoles.{is_small, is_digit};

@@ -1,4 +1,6 @@
 // One line of a program to its answer line: the drill's, with the places of the keys or without, or the speller's.
+#![tactic(auto)]
+
 ghost use Rattle.std.specs.Prelude.{◌≡◌, false, [], ◌∷◌, ◌++◌, ◌+◌, ◌*◌, ◌≤◌, ◌<◌, length, drop};
 ghost use Rattle.rules.specs.TheWord.{most_keys, most_bytes, word_of};
 ghost use Rattle.rules.specs.Decision.{handed_back};

@@ -1,4 +1,6 @@
 // A text at the front of a lent output, or refusal 4: what show, the speller and the drill end in.
+#![tactic(auto)]
+
 ghost use Rattle.std.specs.Prelude.{◌≡◌};
 ghost use Rattle.output.specs.Front.{put};
 

@@ -1,5 +1,7 @@
 // A word taken apart, and the place of its tone: over a lent slice of letters of any length, by base and shape.
 // A letter is one number, base + 256 · shape and 2048 more for a capital, which is passed over.
+#![tactic(auto)]
+
 ghost use Rattle.std.specs.Prelude.{◌≡◌, map, ◌+◌, ◌≤◌, length, drop};
 ghost use Rattle.rules.specs.TheWord.{letter};
 ghost use Rattle.rules.specs.TakingApart.{front, joins as joins_of};

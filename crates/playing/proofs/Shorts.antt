@@ -1,5 +1,5 @@
 -- What a window shows is no more than there is.
-use Rattle.std.proofs.Common.{◌≡◌, ℕ, ◌<◌, ◌≤◌, min, Bool, true, false, ltb, List, length, take, sym, refl, ap, ◌∙◌, arith, take_all, ltb-false, ltb-true}
+use Rattle.std.proofs.Common.{◌≡◌, ℕ, min, Bool, true, false, ltb, List, length, take, sym, refl, ap, ◌∙◌, arith, take_all, ltb-false, ltb-true}
 
 pub take_least : (n k : ℕ) (bs : List ℕ) → k ≡ min n (length bs) → take k bs ≡ take n bs
 take_least n k bs e = by (ltb n (length bs)) refl

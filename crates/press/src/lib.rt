@@ -1,4 +1,6 @@
 // A key typed and the word shown, in one call with one range check: a step leaves a record in range, so its text is made unasked.
+#![tactic(auto)]
+
 ghost use Rattle.std.specs.Prelude.{◌≡◌};
 ghost use Rattle.press.specs.StepAndShow.{step_and_show};
 

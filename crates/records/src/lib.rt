@@ -1,4 +1,6 @@
 // Refusal 8: a record out of range. Places past its counts are not read.
+#![tactic(auto)]
+
 ghost use Rattle.std.specs.Prelude.{◌≡◌};
 ghost use Rattle.rules.specs.KeyRoles.{is_key};
 ghost use Rattle.rules.specs.Refusals.{all, out_of_range as out_of_range_of};

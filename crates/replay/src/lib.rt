@@ -1,4 +1,6 @@
 // A recorded drill replayed: each word typed by itself and committed, and the summary of all of them.
+#![tactic(auto)]
+
 ghost use Rattle.std.specs.Prelude.{◌≡◌, false, [], ◌≤◌, ◌<◌, T, length, take};
 ghost use Rattle.rules.specs.TheWord.{word_of, at_front};
 ghost use Rattle.rules.specs.KeyRoles.{is_key};

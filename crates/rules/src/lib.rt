@@ -1,5 +1,7 @@
 // The types of document 01: the word's record, the roles of keys, and the answer of each entry.
 // Every rule over them is a definition in specs/, one file for each section of the document.
+#![tactic(auto)]
+
 ghost use Rattle.std.specs.Prelude.{◌≡◌, ◌%◌};
 ghost use Rattle.rules.specs.Letters.{telex, vni, small, is as is_of};
 ghost use Rattle.rules.specs.TheWord.{new_word, letter as letter_of, number};

@@ -1,4 +1,6 @@
 // The pupil's session: a record that is lent and changed where it lies. It holds one word, and one thin entry types a key into it.
+#![tactic(auto)]
+
 ghost use Rattle.std.specs.Prelude.{◌≡◌};
 ghost use Rattle.rules.specs.WhatComesBack.{step as step_of};
 ghost use Rattle.session.specs.Sessions.{session_of};

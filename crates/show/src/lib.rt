@@ -1,4 +1,6 @@
 // Show: the text of a word, its tone on the letter at its place, in precomposed UTF-8.
+#![tactic(auto)]
+
 ghost use Rattle.std.specs.Prelude.{◌≡◌, ◌+◌, ◌*◌, ◌≤◌, length, map};
 ghost use Rattle.std.proofs.lemmas.List.Edits.{sets};
 ghost use Rattle.rules.specs.TheWord.{letter, at_front};

@@ -1,4 +1,6 @@
 // The speller: each line of standard input, a shown syllable, answered on standard output by its keys.
+#![tactic(auto)]
+
 use lines::Program;
 use std::process::ExitCode;
 

@@ -1,4 +1,6 @@
 // The speller: shown text back to keystrokes. A text is read letter by letter, asked whether it is a syllable as shown, and written as its standard key list.
+#![tactic(auto)]
+
 ghost use Rattle.std.specs.Prelude.{◌≡◌, List, map, ◌++◌, ◌∷◌, [], ℕ, ◌+◌, ◌*◌, ◌<◌, ◌≤◌, T, length, take, drop};
 ghost use Rattle.rules.specs.Letters.{is};
 ghost use Rattle.rules.specs.TheWord.{most_bytes, letter};

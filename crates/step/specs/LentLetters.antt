@@ -2,7 +2,7 @@
 use Rattle.std.specs.Prelude.{◌≡◌, Bool, true, false, List, [], ◌∷◌, ◌++◌, map, ℕ, ◌+◌, ◌≤◌, ◌<◌, eqb, length, take, set}
 use Prim.Native.Char.{code}
 use Rattle.rules.specs.Letters.{Letter, no_tone, small}
-use Rattle.rules.specs.TheWord.{State, Done, acted, undone, appended, state_of, touched_of, outcome_of, one_more, is_acted, is_undone, is_appended, no_key, shaped_on, most_keys, letter, number, at_front}
+use Rattle.rules.specs.TheWord.{State, Done, acted, undone, state_of, touched_of, outcome_of, one_more, is_acted, is_undone, is_appended, no_key, shaped_on, most_keys, letter, number, at_front}
 use Rattle.rules.specs.KeyRoles as Rules
 use Rattle.rules.specs.KeyRoles.{letter_of_key, asks_second_horn, takes_second_horn, horn_on_u_if, touched_if, is_added, undo, nothing, off, change}
 use Rattle.rules.specs.declared.Role.{Role}

@@ -1,4 +1,6 @@
 // One key typed into a word: refused, or acted, undone or appended by the rules of its role, and counted.
+#![tactic(auto)]
+
 ghost use Rattle.std.specs.Prelude.{◌≡◌, ◌≤◌, ◌<◌};
 ghost use Rattle.rules.specs.TheWord.{appended as appended_of, undone as undone_of};
 ghost use Rattle.rules.specs.KeyRoles.{letter_of_key, asks_second_horn as asks_second_horn_of, undo as undo_of, tone_does, unless_closed, role as role_of};

@@ -1,4 +1,6 @@
 // A stream of a program's lines through fixed buffers: lines of any length, in blocks cut anywhere.
+#![tactic(auto)]
+
 ghost use Rattle.std.specs.Prelude.{◌≡◌, ◌-◌, ◌≤◌, min, length, drop};
 ghost use Rattle.rules.specs.TheWord.{at_front};
 ghost use Rattle.output.specs.Front.{put};

@@ -10,7 +10,7 @@ use lib.Ieee.Fits.{and_l, and_r}
 use borrow.Author.Tests.{ne_eqb, eqb-true}
 use Rattle.rules.specs.Letters.{Letter, Letters, plain}
 use Rattle.rules.specs.TakingApart.{agrees_at, agrees}
-use Rattle.syllable.specs.Numbers.{digit, num, more, packed, bounded, Packs, short, Numbers, plain_of, agree_digit}
+use Rattle.syllable.specs.Numbers.{digit, num, more, packed, bounded, Packs, Numbers, plain_of, agree_digit}
 use Rattle.rules.proofs.Tests.{is_true}
 use Rattle.rules.proofs.Bools.{if_so, only, never, and_false, and_is, eqb_case}
 use Rattle.syllable.proofs.PackedWords.{T-lt, Bounded, bounded_head, bounded_tail, digit_base, is_digit}

@@ -8,7 +8,7 @@ use lib.Dec.{T, ltb}
 use borrow.Author.Tests.{lt-ltb}
 use Rattle.rules.specs.Letters.{Letters, one_of, first_base}
 use Rattle.classes.specs.LetterClasses.{alone}
-use Rattle.syllable.specs.Numbers.{nums, packed, bounded, Packs}
+use Rattle.syllable.specs.Numbers.{nums, packed, Packs}
 use Rattle.syllable.proofs.PackedWords.{T-lt, shorts, one_is, first_is}
 use Rattle.syllable.proofs.Keys.{Key, every, holds, in_arm, no_one}
 

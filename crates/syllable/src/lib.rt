@@ -1,5 +1,7 @@
 // The syllable rules of document 01 over a lent slice of letters: base and shape; neither case, key nor mode.
 // A letter is one number, base + 256 · shape and 2048 more for a capital, which is passed over.
+#![tactic(auto)]
+
 ghost use Rattle.std.specs.Prelude.{◌≡◌, map, ◌<◌};
 ghost use Rattle.rules.specs.Letters.{Letters, one_of, first_base as first_base_of};
 ghost use Rattle.rules.specs.TheWord.{letter};

@@ -1,4 +1,6 @@
 // Where a shape key aims: places in a lent slice of letter numbers, of any length. Of huo, khuo and thuo the horn takes the o alone, and huơ, khuơ and thuơ wait for a second horn.
+#![tactic(auto)]
+
 ghost use Rattle.std.specs.Prelude.{◌≡◌, false, [], ◌∷◌, map};
 ghost use Rattle.rules.specs.Letters.{words, one_of};
 ghost use Rattle.rules.specs.TheWord.{letter};

@@ -1,4 +1,6 @@
 // The word: start, a whole list of keys; the tone's place, the verdict and the decision of a word. One key is `step::step`.
+#![tactic(auto)]
+
 ghost use Rattle.std.specs.Prelude.{◌≡◌, ◌≤◌, T, length, map};
 ghost use Rattle.rules.specs.TheWord.{letter, new_word, holding};
 ghost use Rattle.rules.specs.Decision.{starts_with_đ};

@@ -1,5 +1,4 @@
 -- `classes::is_final` meets its contract: the mark in the class.
-use borrow.Author.Rules.{rules}
 use Rattle.classes.specs.LetterClasses.{class_of}
 use Rattle.classes.proofs.Entries.{marked}
 use Rattle.classes.proofs.is_final.Goals as goal

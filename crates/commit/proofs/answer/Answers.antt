@@ -1,6 +1,5 @@
 -- `commit::answer` meets its contract: the ruling's refusal, or none.
 use mathlib.Core.Path.{sym, ◌∙◌}
-use borrow.Author.Rules.{rules}
 use Rattle.commit.proofs.Parts.{kept_part, restored_part, refused_part}
 use Rattle.commit.proofs.answer.Goals as goal
 

@@ -1,7 +1,6 @@
 -- `commit::commit` meets its contract: the part that the ruling names.
 use mathlib.Core.Path.{sym, ap, ◌∙◌}
 use native.Mathlib.Nat.{zero-add}
-use borrow.Author.Rules.{rules}
 use Rattle.commit.proofs.Parts.{kept_part, restored_part, refused_part}
 use Rattle.commit.specs.Rulings.{handed_from}
 use Rattle.commit.specs.declared.Ruling.{Ruling}

@@ -28,14 +28,14 @@ pub returns-then-not-same : goal.returns-then-not-same
 returns-then-not-same c =
     let w = c.args.w in
     let compared : same_bytes c.args.text.now (shown (word_of w).state) ≡ c.same.result =
-        ap (same_bytes c.args.text.now) (sym (text_made w c.requires c.in_room-n.result _ _ (lit≤ tt) c.in_room-n.ensures.0 c.in_room-n.ensures.1)) ∙ sym c.same.ensures in
+    ap (same_bytes c.args.text.now) (sym (text_made w c.requires c.in_room-n.result _ _ (lit≤ tt) c.in_room-n.ensures.0 c.in_room-n.ensures.1)) ∙ sym c.same.ensures in
     c.refused.ensures ∙ other_text w c.args.text.now (compared ∙ c.if-not-same.true)
 
 pub returns-in-Keep : goal.returns-in-Keep
 returns-in-Keep c =
     let w = c.args.w in
     let compared : same_bytes c.args.text.now (shown (word_of w).state) ≡ c.same.result =
-        ap (same_bytes c.args.text.now) (sym (text_made w c.requires c.in_room-n.result _ _ (lit≤ tt) c.in_room-n.ensures.0 c.in_room-n.ensures.1)) ∙ sym c.same.ensures in
+    ap (same_bytes c.args.text.now) (sym (text_made w c.requires c.in_room-n.result _ _ (lit≤ tt) c.in_room-n.ensures.0 c.in_room-n.ensures.1)) ∙ sym c.same.ensures in
     let long = text_long w c.requires c.in_room-n.result _ _ (lit≤ tt) c.in_room-n.ensures.0 c.in_room-n.ensures.1 in
     let by_word : c.decided-decision.result ≡ decision (word_of w) = decides w c.requires _ _ c.verdict-verdict.ensures c.decided-decision.ensures in
     kept w c.args.text.now c.in_room-n.result (compared ∙ c.if-not-same.false) long (sym by_word ∙ c.in-Keep.is)
@@ -44,6 +44,6 @@ pub returns : goal.returns
 returns c =
     let w = c.args.w in
     let compared : same_bytes c.args.text.now (shown (word_of w).state) ≡ c.same.result =
-        ap (same_bytes c.args.text.now) (sym (text_made w c.requires c.in_room-n.result _ _ (lit≤ tt) c.in_room-n.ensures.0 c.in_room-n.ensures.1)) ∙ sym c.same.ensures in
+    ap (same_bytes c.args.text.now) (sym (text_made w c.requires c.in_room-n.result _ _ (lit≤ tt) c.in_room-n.ensures.0 c.in_room-n.ensures.1)) ∙ sym c.same.ensures in
     let by_word : c.decided-decision.result ≡ decision (word_of w) = decides w c.requires _ _ c.verdict-verdict.ensures c.decided-decision.ensures in
     restored w c.args.text.now (compared ∙ c.if-not-same.false) (sym by_word ∙ c.in_default.is)

@@ -1,11 +1,8 @@
 -- `commit::same` meets its contract. The loop's invariant: from here on the answer is that of the whole.
-use mathlib.Core.Path.{◌≡◌, refl, sym, ◌∙◌}
+use mathlib.Core.Path.{◌≡◌}
 use Prim.Native.Nat.{◌-◌}
-use native.Mathlib.Omega.{arith}
 use lib.ListN.{length, drop}
-use borrow.Author.Rules.{rules}
 use Rattle.rules.specs.Refusals.{same_bytes}
-use Rattle.commit.proofs.Compares.{other_lengths, on, off, end}
 use Rattle.commit.proofs.same.Given as goal
 
 abbrev pub invariant-loop-i : goal.invariant-loop-i

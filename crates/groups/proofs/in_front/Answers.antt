@@ -2,7 +2,6 @@
 use mathlib.Core.Path.{sym, ap}
 use native.Mathlib.Numerals.{add-one}
 use native.Mathlib.Omega.{arith}
-use borrow.Author.Rules.{rules}
 use Rattle.groups.specs.Numbers.{answer_of}
 use Rattle.groups.proofs.Fronts.{zero_behind, too_large, both_together}
 use Rattle.groups.proofs.in_front.Goals as goal

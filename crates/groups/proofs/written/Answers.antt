@@ -1,7 +1,6 @@
 -- `groups::written` meets its contract. The loop's invariant says how far it has come; the measure is what is left of the number.
 use native.Mathlib.Omega.{arith}
-use borrow.Author.Rules.{rules}
-use Rattle.groups.proofs.Writing.{SoFar, begun, few, one_more, all_written}
+use Rattle.groups.proofs.Writing.{begun, few, one_more, all_written}
 use Rattle.groups.proofs.written.Goals as goal
 
 pub loop-left-init : goal.loop-left-init

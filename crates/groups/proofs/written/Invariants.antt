@@ -1,7 +1,5 @@
 -- `groups::written` meets its contract. The loop's invariant says how far it has come; the measure is what is left of the number.
-use native.Mathlib.Omega.{arith}
-use borrow.Author.Rules.{rules}
-use Rattle.groups.proofs.Writing.{SoFar, begun, few, one_more, all_written}
+use Rattle.groups.proofs.Writing.{SoFar}
 use Rattle.groups.proofs.written.Given as goal
 
 abbrev pub invariant-loop-left : goal.invariant-loop-left

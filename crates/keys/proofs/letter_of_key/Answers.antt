@@ -1,6 +1,5 @@
 -- `keys::letter_of_key` meets its contract: a capital is the small letter's number and 2048 more.
 use native.Mathlib.Omega.{arith}
-use borrow.Author.Rules.{rules}
 use Rattle.keys.proofs.letter_of_key.Goals as goal
 
 pub returns-then-is_capital : goal.returns-then-is_capital

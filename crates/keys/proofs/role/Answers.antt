@@ -1,5 +1,4 @@
 -- `keys::role` meets its contract: the mode picks the table.
-use borrow.Author.Rules.{rules}
 use Rattle.keys.proofs.Roles.{no_mode}
 use Rattle.keys.proofs.role.Goals as goal
 

@@ -1,9 +1,7 @@
 -- `layout::letters_in` meets its contract. The loop's invariant: the first letters are the first numbers of the pairs.
 use mathlib.Core.Path.{refl}
-use Prim.Native.Nat.{◌-◌}
 use native.Mathlib.Omega.{arith}
-use borrow.Author.Rules.{rules}
-use Rattle.layout.proofs.Pairs.{ReadSoFar, read_on, all_read}
+use Rattle.layout.proofs.Pairs.{read_on, all_read}
 use Rattle.layout.proofs.letters_in.Goals as goal
 
 pub loop-i-init : goal.loop-i-init

@@ -1,6 +1,5 @@
 -- `layout::letters_of` meets its contract: the letters of no record, or those from their place.
 use mathlib.Core.Path.{ap, ◌∙◌}
-use borrow.Author.Rules.{rules}
 use Rattle.layout.specs.declared.RecordRead.{RecordRead}
 use Rattle.layout.proofs.Answers.{another_length, another_mark, letters_read}
 use Rattle.layout.proofs.letters_of.Goals as goal

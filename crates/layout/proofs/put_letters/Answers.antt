@@ -1,7 +1,6 @@
 -- `layout::put_letters` meets its contract: nothing, or the pairs of the letters in their place.
 use native.Mathlib.Omega.{arith}
 use lib.ListN.{length-take, length-drop}
-use borrow.Author.Rules.{rules}
 use Rattle.layout.proofs.InPlace.{nothing_put, alike, all_put}
 use Rattle.layout.proofs.put_letters.Goals as goal
 

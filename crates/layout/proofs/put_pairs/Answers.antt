@@ -1,10 +1,8 @@
 -- `layout::put_pairs` meets its contract. The loop's invariant: the pairs of the first letters are written.
 use mathlib.Core.Path.{refl, sym, ◌∙◌}
-use Prim.Native.Nat.{◌-◌}
 use native.Mathlib.Omega.{arith}
-use lib.ListN.{length, length-set}
-use borrow.Author.Rules.{rules}
-use Rattle.layout.proofs.Pairs.{WrittenSoFar, write_on, all_written}
+use lib.ListN.{length-set}
+use Rattle.layout.proofs.Pairs.{write_on, all_written}
 use Rattle.layout.proofs.put_pairs.Goals as goal
 
 pub loop-i-init : goal.loop-i-init

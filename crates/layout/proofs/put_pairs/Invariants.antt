@@ -1,10 +1,7 @@
 -- `layout::put_pairs` meets its contract. The loop's invariant: the pairs of the first letters are written.
-use mathlib.Core.Path.{refl, sym, ◌∙◌}
 use Prim.Native.Nat.{◌-◌}
-use native.Mathlib.Omega.{arith}
-use lib.ListN.{length, length-set}
-use borrow.Author.Rules.{rules}
-use Rattle.layout.proofs.Pairs.{WrittenSoFar, write_on, all_written}
+use lib.ListN.{length}
+use Rattle.layout.proofs.Pairs.{WrittenSoFar}
 use Rattle.layout.proofs.put_pairs.Given as goal
 
 abbrev pub invariant-loop-i : goal.invariant-loop-i

@@ -1,6 +1,5 @@
 -- `letters::is_letter` meets its contract: a plain small letter is one, no number from 4096 on is, and below the tests on the number say it.
 use mathlib.Core.Path.{sym, ◌∙◌}
-use borrow.Author.Rules.{rules}
 use Rattle.letters.proofs.Writes.{too_large, plain_letter, by_number}
 use Rattle.letters.proofs.is_letter.Goals as goal
 

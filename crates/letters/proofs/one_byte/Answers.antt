@@ -1,5 +1,4 @@
 -- `letters::one_byte` meets its contract: an ASCII letter, or none.
-use borrow.Author.Rules.{rules}
 use Rattle.letters.proofs.Decodes.{is_one, no_one}
 use Rattle.letters.proofs.one_byte.Goals as goal
 

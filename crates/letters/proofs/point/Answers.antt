@@ -1,10 +1,7 @@
 -- `letters::point` meets its contract: each way out is one case of the code point.
-use mathlib.Core.Path.{◌≡◌, ◌∙◌, sym, ap, subst}
-use mathlib.Core.Bool.{Bool, not, true, false}
+use mathlib.Core.Path.{◌∙◌, sym, ap, subst}
 use Prim.Native.Nat.{ℕ, ◌≤◌}
 use native.Mathlib.Omega.{arith}
-use borrow.Author.Rules.{rules}
-use borrow.Author.Tests.{not-true, not-false}
 use Rattle.rules.specs.Letters.{vni}
 use Rattle.rules.specs.TheWord.{letter}
 use Rattle.rules.specs.CodePoints.{in_case}

@@ -1,7 +1,6 @@
 -- `letters::read` meets its contract: each way out, by the bytes that are left at the place.
 use mathlib.Core.Path.{◌∙◌}
 use native.Mathlib.Omega.{arith}
-use borrow.Author.Rules.{rules}
 use Rattle.letters.proofs.Agrees.{read_end, read_one, cut_at_one, read_two, cut_at_two, read_three}
 use Rattle.letters.proofs.read.Goals as goal
 

@@ -1,6 +1,5 @@
 -- `letters::three_bytes` meets its contract: the code point of three bytes in range, not overlong, is looked up.
 use mathlib.Core.Path.{◌∙◌, ap}
-use borrow.Author.Rules.{rules}
 use Rattle.letters.specs.Decoding.{found, read_as}
 use Rattle.letters.proofs.Decodes.{three_range, is_three, overlong, no_three}
 use Rattle.letters.proofs.three_bytes.Goals as goal

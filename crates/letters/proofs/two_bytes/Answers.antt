@@ -1,6 +1,5 @@
 -- `letters::two_bytes` meets its contract: the code point of two bytes in range is looked up.
 use mathlib.Core.Path.{◌∙◌, ap}
-use borrow.Author.Rules.{rules}
 use Rattle.letters.specs.Decoding.{found, read_as}
 use Rattle.letters.proofs.Decodes.{two_range, is_two, no_two}
 use Rattle.letters.proofs.two_bytes.Goals as goal

@@ -1,6 +1,5 @@
 -- `lines::answer_line` meets its contract: the text that is made, put into the output.
 use mathlib.Core.Path.{ap, ◌∙◌}
-use borrow.Author.Rules.{rules}
 use Rattle.rules.specs.WhatComesBack.{Written}
 use Rattle.lines.proofs.Starts.{put_line}
 use Rattle.lines.proofs.answer_line.Goals as goal

@@ -1,7 +1,6 @@
 -- `lines::byte_column` meets its contract: one byte behind the other.
 use native.Mathlib.Omega.{arith}
 use lib.ListN.{set, length-set}
-use borrow.Author.Rules.{rules}
 use Rattle.lines.proofs.Columns.{and_then_law, byte_put}
 use Rattle.lines.proofs.byte_column.Goals as goal
 

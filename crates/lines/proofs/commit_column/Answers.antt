@@ -1,7 +1,6 @@
 -- `lines::commit_column` meets its contract: what the decision hands back.
 use mathlib.Core.Path.{sym, ap}
 use mathlib.Core.List.{[], ◌∷◌, ◌++◌}
-use borrow.Author.Rules.{rules}
 use Rattle.rules.specs.Decision.{handed_back}
 use Rattle.rules.specs.Drill.{or_hyphen}
 use Rattle.rules.specs.declared.Decision.{Decision}

@@ -1,5 +1,4 @@
 -- `lines::key_column` meets its contract: a hyphen or the number.
-use borrow.Author.Rules.{rules}
 use Rattle.lines.proofs.Columns.{as_part, no_key, some_key}
 use Rattle.lines.proofs.key_column.Goals as goal
 

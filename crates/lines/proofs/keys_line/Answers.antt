@@ -1,6 +1,5 @@
 -- `lines::keys_line` meets its contract: the refusal's line, or the line of the word that the keys make.
 use mathlib.Core.Path.{sym, ap, ◌∙◌}
-use borrow.Author.Rules.{rules}
 use Rattle.rules.specs.TheWord.{word_of}
 use Rattle.rules.specs.Refusals.{out_of_range}
 use Rattle.rules.specs.declared.TypeAll.{TypeAll}

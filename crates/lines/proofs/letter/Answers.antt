@@ -1,6 +1,5 @@
 -- `lines::letter` meets its contract: K or R.
 use mathlib.Core.Path.{sym, ap}
-use borrow.Author.Rules.{rules}
 use Rattle.rules.specs.Drill.{decision_column}
 use Rattle.lines.proofs.letter.Goals as goal
 

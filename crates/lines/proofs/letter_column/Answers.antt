@@ -1,7 +1,6 @@
 -- `lines::letter_column` meets its contract: the place of the one key behind that of the other.
 use native.Mathlib.Omega.{arith}
 use Prim.Native.Char.{code}
-use borrow.Author.Rules.{rules}
 use Rattle.rules.specs.Drill.{place_or_hyphen}
 use Rattle.lines.proofs.Columns.{as_part, and_then_law, key_long, in_two}
 use Rattle.lines.proofs.letter_column.Goals as goal

@@ -1,5 +1,4 @@
 -- `lines::mode_of` meets its contract: each answer by its tests.
-use borrow.Author.Rules.{rules}
 use Rattle.lines.proofs.Starts.{too_short, no_space, is_telex, is_vni, other_start}
 use Rattle.lines.proofs.mode_of.Goals as goal
 

@@ -2,7 +2,6 @@
 use mathlib.Core.Path.{◌∙◌}
 use native.Mathlib.Omega.{arith}
 use lib.ListN.{length-set}
-use borrow.Author.Rules.{rules}
 use Rattle.lines.proofs.Columns.{as_part, and_then_law, byte_put, one_digit, two_digits}
 use Rattle.lines.proofs.number_column.Goals as goal
 

@@ -1,7 +1,6 @@
 -- `lines::place_column` meets its contract: a hyphen or the number.
 use mathlib.Core.Path.{sym, ap, subst}
 use mathlib.Core.List.{[], ◌∷◌, ◌++◌}
-use borrow.Author.Rules.{rules}
 use Rattle.rules.specs.Drill.{place_column}
 use Rattle.rules.specs.declared.Place.{Place}
 use Rattle.lines.specs.Appending.{SmallPlace}

@@ -2,7 +2,6 @@
 use mathlib.Core.List.{[], ◌∷◌}
 use native.Mathlib.Omega.{arith}
 use Prim.Native.Char.{code}
-use borrow.Author.Rules.{rules}
 use Rattle.rules.specs.Drill.{decimal}
 use Rattle.lines.proofs.Columns.{as_part, and_then_law, decimal_long, in_three}
 use Rattle.lines.proofs.refused_line.Goals as goal

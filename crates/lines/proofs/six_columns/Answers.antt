@@ -3,7 +3,6 @@ use mathlib.Core.Path.{ap}
 use mathlib.Core.List.{List, [], ◌∷◌, ◌++◌}
 use Prim.Native.Nat.{ℕ}
 use native.Mathlib.Omega.{arith}
-use borrow.Author.Rules.{rules}
 use Rattle.rules.specs.Decision.{handed_back}
 use Rattle.rules.specs.Drill.{decimal, or_hyphen, place_column, decision_column}
 use Rattle.lines.proofs.Columns.{as_part, and_then_law, hyphen_long, handed_long, decimal_long, place_long, in_six}

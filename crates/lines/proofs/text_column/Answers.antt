@@ -1,5 +1,4 @@
 -- `lines::text_column` meets its contract: a hyphen or the text.
-use borrow.Author.Rules.{rules}
 use Rattle.lines.proofs.Columns.{as_part, hyphen, no_hyphen}
 use Rattle.lines.proofs.text_column.Goals as goal
 

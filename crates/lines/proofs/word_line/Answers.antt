@@ -4,7 +4,6 @@ use mathlib.Core.Bool.{Bool}
 use Prim.Native.Nat.{ℕ, ◌≤◌}
 use native.Mathlib.Omega.{arith}
 use lib.ListN.{length, length-map, length-take}
-use borrow.Author.Rules.{rules}
 use Rattle.rules.specs.TheWord.{most_keys, word_of}
 use Rattle.rules.specs.Drill.{word_columns}
 use Rattle.rules.proofs.Range.{few_letters}

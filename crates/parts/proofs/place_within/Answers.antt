@@ -1,9 +1,7 @@
 -- `parts::place_within` meets its contract. The loop's invariant: no letter from here on is shaped.
 use mathlib.Core.Path.{◌≡◌, sym, ap, ◌∙◌}
-use mathlib.Core.Option.{none}
-use Prim.Native.Nat.{ℕ, ◌-◌, ◌≤◌}
+use Prim.Native.Nat.{ℕ}
 use native.Mathlib.Omega.{arith}
-use lib.ListN.{length}
 use Rattle.parts.proofs.Places.{last_from, at_end, not_here, is_here, single, shaped, counted}
 use Rattle.parts.proofs.place_within.Goals as goal
 

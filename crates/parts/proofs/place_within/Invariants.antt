@@ -1,10 +1,9 @@
 -- `parts::place_within` meets its contract. The loop's invariant: no letter from here on is shaped.
-use mathlib.Core.Path.{◌≡◌, sym, ap, ◌∙◌}
+use mathlib.Core.Path.{◌≡◌}
 use mathlib.Core.Option.{none}
-use Prim.Native.Nat.{ℕ, ◌-◌, ◌≤◌}
-use native.Mathlib.Omega.{arith}
+use Prim.Native.Nat.{◌≤◌}
 use lib.ListN.{length}
-use Rattle.parts.proofs.Places.{last_from, at_end, not_here, is_here, single, shaped, counted}
+use Rattle.parts.proofs.Places.{last_from}
 use Rattle.parts.proofs.place_within.Given as goal
 
 abbrev pub invariant-loop-i : goal.invariant-loop-i

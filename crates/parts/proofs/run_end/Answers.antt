@@ -1,11 +1,7 @@
 -- `parts::run_end` meets its contract. The loop's invariant: from here the run ends where it ends from the start.
-use mathlib.Core.Path.{◌≡◌, refl, ap, ◌∙◌}
-use mathlib.Core.List.{map}
-use Prim.Native.Nat.{◌+◌, ◌-◌}
+use mathlib.Core.Path.{refl, ap, ◌∙◌}
 use native.Mathlib.Omega.{arith}
-use lib.ListN.{length, drop}
-use Rattle.rules.specs.TheWord.{letter}
-use Rattle.rules.specs.TakingApart.{vowel, front}
+use Rattle.rules.specs.TakingApart.{vowel}
 use Rattle.parts.proofs.Runs.{past_all, stops, goes}
 use Rattle.parts.proofs.run_end.Goals as goal
 

@@ -1,12 +1,10 @@
 -- `parts::run_end` meets its contract. The loop's invariant: from here the run ends where it ends from the start.
-use mathlib.Core.Path.{◌≡◌, refl, ap, ◌∙◌}
+use mathlib.Core.Path.{◌≡◌}
 use mathlib.Core.List.{map}
 use Prim.Native.Nat.{◌+◌, ◌-◌}
-use native.Mathlib.Omega.{arith}
 use lib.ListN.{length, drop}
 use Rattle.rules.specs.TheWord.{letter}
-use Rattle.rules.specs.TakingApart.{vowel, front}
-use Rattle.parts.proofs.Runs.{past_all, stops, goes}
+use Rattle.rules.specs.TakingApart.{front}
 use Rattle.parts.proofs.run_end.Given as goal
 
 abbrev pub invariant-loop-i : goal.invariant-loop-i

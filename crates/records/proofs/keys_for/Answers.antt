@@ -1,5 +1,4 @@
 -- `records::keys_for` meets its contract, by its test.
-use borrow.Author.Rules.{rules}
 use borrow.Author.Tests.{eq-eqb, ne_eqb}
 use Rattle.rules.specs.TheWord.{no_key}
 use Rattle.records.specs.Numbers.{keys_for}

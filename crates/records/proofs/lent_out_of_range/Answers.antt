@@ -3,7 +3,6 @@ use mathlib.Core.Path.{◌≡◌, sym}
 use native.Mathlib.Omega.{arith}
 use lib.ListN.{length}
 use borrow.Author.Rules.{rules}
-use borrow.Author.Tests.{not-true, not-false}
 use Rattle.rules.specs.TheWord.{most_keys}
 use Rattle.records.specs.Numbers.{word_in}
 use Rattle.records.proofs.Conditions.{by_numbers, few, by_keys, by_letters}

@@ -1,11 +1,6 @@
 -- `records::letters_allowed` meets its contract. The loop's invariant: from here on the answer is that of the whole.
-use mathlib.Core.Path.{◌≡◌, refl, sym, ◌∙◌}
-use Prim.Native.Nat.{◌-◌}
+use mathlib.Core.Path.{refl, sym, ◌∙◌}
 use native.Mathlib.Omega.{arith}
-use lib.ListN.{length, drop}
-use borrow.Author.Rules.{rules}
-use borrow.Author.Tests.{not-true, not-false}
-use Rattle.rules.specs.Refusals.{all}
 use Rattle.letters.specs.Writing.{is_letter}
 use Rattle.records.proofs.Conditions.{all_stop, all_on, all_end}
 use Rattle.records.proofs.letters_allowed.Goals as goal

@@ -2,7 +2,6 @@
 use mathlib.Core.Path.{ap, ◌∙◌}
 use mathlib.Core.Bool.{Bool, not, ◌||◌}
 use Prim.Native.Nat.{◌+◌}
-use borrow.Author.Rules.{rules}
 use lib.Dec.{eqb, ltb}
 use Rattle.rules.specs.Letters.{dot}
 use Rattle.rules.specs.TheWord.{most_keys}

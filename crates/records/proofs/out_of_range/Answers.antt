@@ -1,6 +1,5 @@
 -- `records::out_of_range_law` meets its contract: the record's own arrays are lent.
 use mathlib.Core.Path.{ap, ◌∙◌}
-use borrow.Author.Rules.{rules}
 use Rattle.rules.specs.Refusals.{out_of_range}
 use Rattle.records.specs.declared.Numbers.{Numbers}
 use Rattle.records.specs.Numbers.{word_in}

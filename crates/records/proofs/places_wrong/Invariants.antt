@@ -1,11 +1,8 @@
 -- `records::places_wrong` meets its contract. The loop's invariant: what is asked about so far.
-use mathlib.Core.Path.{◌≡◌, refl, ap, ◌∙◌}
+use mathlib.Core.Path.{◌≡◌}
 use Prim.Native.Nat.{◌+◌, ◌-◌, ◌≤◌}
-use native.Mathlib.Omega.{arith}
-use lib.ListN.{length}
-use borrow.Author.Rules.{rules}
 use Rattle.rules.specs.TheWord.{most_keys}
-use Rattle.records.proofs.PlacesAsked.{wrong_before, one_more, asked_all}
+use Rattle.records.proofs.PlacesAsked.{wrong_before}
 use Rattle.records.proofs.places_wrong.Given as goal
 
 abbrev pub invariant-loop-i : goal.invariant-loop-i

@@ -1,6 +1,5 @@
 -- `replay::add_last` meets its contract: a word is added where there are keys.
 use mathlib.Core.Path.{refl}
-use borrow.Author.Rules.{rules}
 use Rattle.replay.proofs.Totals.{not_added, added, no_keys, some_keys_law}
 use Rattle.replay.proofs.add_last.Goals as goal
 

@@ -15,7 +15,7 @@ use Rattle.rules.proofs.StaysInRange.{read_front}
 use Rattle.replay.specs.Replays.{committed_line, done_of}
 use Rattle.replay.specs.Passes.{Fits, with_done, line_at}
 use Rattle.replay.specs.declared.WordDone.{WordDone}
-use Rattle.replay.proofs.Words.{word_in_range, is_typed, line_long, fits_word}
+use Rattle.replay.proofs.Words.{word_in_range, is_typed, fits_word}
 use Rattle.replay.proofs.add_word.Goals as goal
 
 -- the word that allowed keys make, what is counted of it, and its line as it is then

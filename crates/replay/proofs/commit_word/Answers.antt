@@ -1,6 +1,5 @@
 -- `replay::commit_word` meets its contract: the refusal of the keys, or the line of the word that they make.
 use mathlib.Core.Path.{sym, ap, ◌∙◌}
-use borrow.Author.Rules.{rules}
 use Rattle.rules.specs.TheWord.{word_of, at_front}
 use Rattle.rules.specs.Refusals.{out_of_range}
 use Rattle.rules.specs.declared.TypeAll.{TypeAll}

@@ -1,6 +1,5 @@
 -- `replay::replay` meets its contract: refused for its mode, or replayed behind it.
 use mathlib.Core.Path.{sym, ap, ◌∙◌}
-use borrow.Author.Rules.{rules}
 use Rattle.replay.specs.Replays.{Replayed}
 use Rattle.replay.proofs.Wholes.{refused_begin}
 use Rattle.replay.proofs.replay.Goals as goal

@@ -1,10 +1,8 @@
 -- `show::fill` meets its contract. The loop's invariant: what is written and what is still to come are together the whole text.
 use Prim.Native.Nat.{◌-◌}
-use native.Mathlib.Omega.{arith}
 use lib.ListN.{length}
-use borrow.Author.Rules.{rules}
 use Rattle.rules.specs.declared.Place.TheVariants.{At}
-use Rattle.show.proofs.Fills.{SoFar, begun, one_more, how_many, in_front}
+use Rattle.show.proofs.Fills.{SoFar}
 use Rattle.show.proofs.fill.Given as goal
 
 abbrev pub invariant-loop-i : goal.invariant-loop-i

@@ -3,7 +3,6 @@ use mathlib.Core.Path.{ap, ◌∙◌}
 use mathlib.Core.List.{List}
 use Prim.Native.Nat.{ℕ}
 use lib.ListN.{length}
-use borrow.Author.Rules.{rules}
 use Rattle.rules.specs.TheWord.{at_front}
 use Rattle.show.proofs.Tones.{toned_text}
 use Rattle.show.proofs.Answers.{none_made, no_room, in_room}

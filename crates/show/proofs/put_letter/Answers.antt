@@ -5,7 +5,6 @@ use Prim.Native.Nat.{◌+◌}
 use native.Mathlib.Omega.{arith}
 use lib.ListN.{length}
 use lib.Seq.{sets}
-use borrow.Author.Rules.{rules}
 use Rattle.letters.specs.Writing.{letter_bytes}
 use Rattle.letters.proofs.Writes.{own_byte, fits_a_byte}
 use Rattle.show.specs.Filling.{tone_if}

@@ -4,7 +4,6 @@ use mathlib.Core.List.{List}
 use Prim.Native.Nat.{ℕ, ◌+◌}
 use lib.ListN.{length}
 use lib.Seq.{sets}
-use borrow.Author.Rules.{rules}
 use Rattle.letters.specs.Writing.{point_or, bytes_if, letter_bytes}
 use Rattle.letters.proofs.Writes.{point_bytes}
 use Rattle.show.proofs.put_marked.Goals as goal

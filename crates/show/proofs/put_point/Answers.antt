@@ -1,7 +1,6 @@
 -- `show::put_point` meets its contract: no byte for no code point, else one write a byte.
 use native.Mathlib.Omega.{arith}
 use lib.ListN.{length-set}
-use borrow.Author.Rules.{rules}
 use Rattle.show.proofs.Puts.{no_bytes, one_byte, two_bytes, three_bytes, none_put, one_put, two_put, three_put}
 use Rattle.show.proofs.put_point.Goals as goal
 

@@ -1,6 +1,5 @@
 -- `show::show` meets its contract: the record's own arrays are lent.
 use mathlib.Core.Path.{ap, ◌∙◌}
-use borrow.Author.Rules.{rules}
 use Rattle.rules.specs.WhatComesBack.{Written, show}
 use Rattle.records.specs.declared.Numbers.{Numbers}
 use Rattle.records.specs.Numbers.{word_in}

@@ -1,7 +1,6 @@
 -- `show::toned` meets its contract: the place of the tone as a number.
 use mathlib.Core.Path.{sym, ap, ◌∙◌}
 use lib.ListN.{length}
-use borrow.Author.Rules.{rules}
 use Rattle.rules.specs.declared.Place.{Place}
 use Rattle.parts.proofs.Places.{no_tone_law}
 use Rattle.show.specs.Filling.{toned_at}

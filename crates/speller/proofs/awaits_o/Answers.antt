@@ -1,7 +1,6 @@
 -- `speller::awaits_o` meets its contract: the last letter awaits none, another has its next.
 use mathlib.Core.Path.{ap₂, ◌∙◌}
 use mathlib.Core.Bool.{◌&&◌}
-use borrow.Author.Rules.{rules}
 use Rattle.speller.proofs.KeyLists.{last_awaits_none, awaits_next}
 use Rattle.speller.proofs.awaits_o.Goals as goal
 

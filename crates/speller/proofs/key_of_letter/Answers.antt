@@ -1,6 +1,5 @@
 -- `speller::key_of_letter` meets its contract: a capital is 32 less.
 use mathlib.Core.Path.{ap₂, sym, ◌∙◌}
-use borrow.Author.Rules.{rules}
 use Rattle.rules.specs.Speller.{key_in_case}
 use Rattle.speller.proofs.key_of_letter.Goals as goal
 

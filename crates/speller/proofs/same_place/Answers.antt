@@ -1,6 +1,5 @@
 -- `speller::same_place` meets its contract: only two places that are both at a letter are left to compare.
 use mathlib.Core.Path.{sym, ap₂}
-use borrow.Author.Rules.{rules}
 use Rattle.speller.specs.TextRead.{same_place}
 use Rattle.speller.proofs.same_place.Goals as goal
 

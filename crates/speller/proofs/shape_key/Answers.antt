@@ -1,6 +1,5 @@
 -- `speller::shape_key` meets its contract: each arm is its row of the mode's table, and the last is for no shape.
 use mathlib.Core.Path.{sym, ap, ◌∙◌}
-use borrow.Author.Rules.{rules}
 use Rattle.rules.specs.TheWord.{letter}
 use Rattle.rules.specs.Speller.{key_for, telex_shape_keys, vni_shape_keys}
 use Rattle.rules.proofs.Arms.{none_of}

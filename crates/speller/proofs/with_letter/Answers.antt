@@ -1,5 +1,4 @@
 -- `speller::with_letter` meets its contract: the letter carries no tone, a second one, or the first.
-use borrow.Author.Rules.{rules}
 use Rattle.speller.proofs.Tones.{untoned, toned_again, first_toned}
 use Rattle.speller.proofs.with_letter.Goals as goal
 

@@ -1,5 +1,4 @@
 -- `step::append` meets its contract: the letter is stored after the last.
-use borrow.Author.Rules.{rules}
 use Rattle.rules.specs.KeyRoles.{letter_of_key}
 use Rattle.step.proofs.States.{appends}
 use Rattle.step.proofs.append.Goals as goal

@@ -1,5 +1,4 @@
 -- `step::appended` meets its contract: what is left by an appended key, with its outcome.
-use borrow.Author.Rules.{rules}
 use Rattle.step.proofs.States.{as_appended}
 use Rattle.step.proofs.appended.Goals as goal
 

@@ -1,6 +1,5 @@
 -- `step::counted` meets its contract: each arm raises the count of its outcome.
 use mathlib.Core.Path.{sym, ap}
-use borrow.Author.Rules.{rules}
 use Rattle.step.specs.LentLetters.{counted_in}
 use Rattle.step.proofs.States.{neither}
 use Rattle.step.proofs.counted.Goals as goal

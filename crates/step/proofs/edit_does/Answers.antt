@@ -1,6 +1,5 @@
 -- `step::edit_does` meets its contract: each arm is the case of its edit.
 use mathlib.Core.Path.{ap, ◌∙◌}
-use borrow.Author.Rules.{rules}
 use Rattle.rules.specs.KeyRoles.{letter_of_key}
 use Rattle.step.specs.declared.Edit.{Edit}
 use Rattle.step.specs.LentLetters.{state_in, after_edit}

@@ -3,7 +3,6 @@ use mathlib.Core.Path.{◌≡◌, refl, sym, ap, ◌∙◌}
 use mathlib.Core.Bool.{Bool, true, false}
 use mathlib.Core.List.{List}
 use Prim.Native.Nat.{ℕ}
-use borrow.Author.Rules.{rules}
 use Rattle.rules.specs.Letters.{Letter}
 use Rattle.rules.specs.TheWord.{State}
 use Rattle.rules.specs.KeyRoles.{letter_of_key, unless_closed, role_does, role}
@@ -28,18 +27,16 @@ pub tone_key-requires : goal.tone_key-requires
 tone_key-requires c = (c.requires.0, by_its_role c.args.rest.closed c.args.mode c.args.key c.role_in-role.ensures c.in-ToneRole.is tt)
 
 pub edit_does-requires : goal.edit_does-requires
-edit_does-requires c =
-    (
-      room_after c.args.mode c.args.letters.now c.args.rest c.requires.0 c.requires.1 (good_shape c.in-ShapeRole.shape _) c.shape_edit-edit.ensures,
-      by_its_role c.args.rest.closed c.args.mode c.args.key c.role_in-role.ensures c.in-ShapeRole.is tt,
-    )
+edit_does-requires c = (
+  room_after c.args.mode c.args.letters.now c.args.rest c.requires.0 c.requires.1 (good_shape c.in-ShapeRole.shape _) c.shape_edit-edit.ensures,
+  by_its_role c.args.rest.closed c.args.mode c.args.key c.role_in-role.ensures c.in-ShapeRole.is tt,
+)
 
 pub edit_does-requires-in-StrokeRole : goal.edit_does-requires-in-StrokeRole
-edit_does-requires-in-StrokeRole c =
-    (
-      room_after c.args.mode c.args.letters.now c.args.rest c.requires.0 c.requires.1 (good_stroke _) c.stroke_edit-edit.ensures,
-      by_its_role c.args.rest.closed c.args.mode c.args.key c.role_in-role.ensures c.in-StrokeRole.is tt,
-    )
+edit_does-requires-in-StrokeRole c = (
+  room_after c.args.mode c.args.letters.now c.args.rest c.requires.0 c.requires.1 (good_stroke _) c.stroke_edit-edit.ensures,
+  by_its_role c.args.rest.closed c.args.mode c.args.key c.role_in-role.ensures c.in-StrokeRole.is tt,
+)
 
 pub appended-requires : goal.appended-requires
 appended-requires c = room_then c.args.letters.now c.args.rest (letter_of_key c.args.key) _ _ c.second_horn-touched.ensures c.requires.0

@@ -1,7 +1,6 @@
 -- `step::not_taken` meets its contract: full, or else not allowed.
 use mathlib.Core.Path.{sym, ap, ◌∙◌}
 use mathlib.Core.Bool.{Bool, true, false}
-use borrow.Author.Rules.{rules}
 use borrow.Author.Tests.{le-leb, lt-leb}
 use Rattle.rules.specs.TheWord.{most_keys}
 use Rattle.step.specs.InPlace.{refused_with}

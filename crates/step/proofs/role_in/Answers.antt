@@ -1,7 +1,6 @@
 -- `step::role_in` meets its contract: no role in a closed word, else the key's.
 use mathlib.Core.Path.{sym, ap, ◌∙◌}
 use mathlib.Core.Bool.{Bool}
-use borrow.Author.Rules.{rules}
 use Rattle.rules.specs.KeyRoles.{role}
 use Rattle.step.specs.LentLetters.{unless_closed_role}
 use Rattle.step.proofs.role_in.Goals as goal

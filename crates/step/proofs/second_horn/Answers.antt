@@ -1,7 +1,5 @@
 -- `step::second_horn` meets its contract: three questions, and the u in a word that passes all.
 use native.Mathlib.Omega.{arith}
-use borrow.Author.Rules.{rules}
-use borrow.Author.Tests.{not-true, not-false}
 use Rattle.rules.specs.KeyRoles.{letter_of_key}
 use Rattle.step.proofs.SecondHorns.{u_inside, asked_of_part, takes_none, takes_closed, takes_other, takes_it, left_as_it_was, put_on, by_base}
 use Rattle.step.proofs.second_horn.Goals as goal

@@ -63,8 +63,8 @@ returns-then-at-is_key c =
     let w = c.read-reading.result.word in
     let own : c.letters_of-letters.result ≡ w.letters = c.letters_of-letters.ensures ∙ sym (ap (λ (x : RecordRead). x.word.letters) c.read-reading.ensures) in
     let range : out_of_range w ≡ false =
-        out_by_letters w c.numbers_of-n.result c.numbers_of-n.ensures c.numbers_wrong.ensures c.places_wrong.ensures c.if-numbers_wrong-places_wrong.false c.keys_allowed.ensures c.if-not-keys_allowed.false own
-        c.letters_allowed.ensures ∙ ap not c.if-not-letters_allowed.false in
+    out_by_letters w c.numbers_of-n.result c.numbers_of-n.ensures c.numbers_wrong.ensures c.places_wrong.ensures c.if-numbers_wrong-places_wrong.false c.keys_allowed.ensures c.if-not-keys_allowed.false own
+    c.letters_allowed.ensures ∙ ap not c.if-not-letters_allowed.false in
     let typed_of = ap (λ (n : Numbers). n.typed) c.numbers_of-n.ensures in
     takes_none bs c.args.key c.read-reading.result c.read-reading.ensures (not-false _ c.if-not-reading.false) range typed_of c.is_key.ensures c.if-at-is_key.true c.not_taken.ensures
 
@@ -74,8 +74,8 @@ typed-outcome-requires c =
     let w = c.read-reading.result.word in
     let own : c.letters_of-letters.result ≡ w.letters = c.letters_of-letters.ensures ∙ sym (ap (λ (x : RecordRead). x.word.letters) c.read-reading.ensures) in
     let range : out_of_range w ≡ false =
-        out_by_letters w c.numbers_of-n.result c.numbers_of-n.ensures c.numbers_wrong.ensures c.places_wrong.ensures c.if-numbers_wrong-places_wrong.false c.keys_allowed.ensures c.if-not-keys_allowed.false own
-        c.letters_allowed.ensures ∙ ap not c.if-not-letters_allowed.false in
+    out_by_letters w c.numbers_of-n.result c.numbers_of-n.ensures c.numbers_wrong.ensures c.places_wrong.ensures c.if-numbers_wrong-places_wrong.false c.keys_allowed.ensures c.if-not-keys_allowed.false own
+    c.letters_allowed.ensures ∙ ap not c.if-not-letters_allowed.false in
     let typed_of = ap (λ (n : Numbers). n.typed) c.numbers_of-n.ensures in
     let t = takes_it bs c.args.key c.read-reading.result c.read-reading.ensures (not-false _ c.if-not-reading.false) range typed_of c.is_key.ensures c.if-at-is_key.false in
     ready_at bs c.args.key c.read-reading.result c.read-reading.ensures (not-false _ c.if-not-reading.false) c.numbers_of-n.result c.numbers_of-n.ensures c.letters_of-letters.ensures range t.0 t.1

@@ -1,7 +1,6 @@
 -- `step::tone_key` meets its contract: each arm is the case of its tests.
 use mathlib.Core.Path.{sym, ap, subst, ◌∙◌}
 use mathlib.Core.Bool.{true, false}
-use borrow.Author.Rules.{rules}
 use Rattle.rules.specs.Letters.{no_tone}
 use Rattle.rules.specs.TheWord.{undone as undone_with}
 use Rattle.rules.specs.KeyRoles.{letter_of_key, undo, tone_goes, tone_does}

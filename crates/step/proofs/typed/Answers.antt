@@ -4,7 +4,6 @@ use mathlib.Core.List.{List}
 use Prim.Native.Nat.{ℕ}
 use native.Mathlib.Omega.{arith}
 use lib.ListN.{length, length-set}
-use borrow.Author.Rules.{rules}
 use Rattle.step.specs.InPlace.{held_in}
 use Rattle.step.proofs.Steps.{room_in, in_range_of, ready}
 use Rattle.step.proofs.RecordKept as Kept

@@ -1,5 +1,4 @@
 -- `step::undone` meets its contract: an appended key, and the mark.
-use borrow.Author.Rules.{rules}
 use Rattle.step.proofs.States.{as_undone}
 use Rattle.step.proofs.undone.Goals as goal
 

@@ -1,11 +1,8 @@
 -- `stream::feed` meets its contract. The loop's invariant: what is done so far and what the rest does are together what the whole block does.
 use mathlib.Core.Path.{◌∙◌}
-use Prim.Native.Nat.{◌-◌}
 use native.Mathlib.Omega.{arith}
-use lib.ListN.{length}
-use borrow.Author.Rules.{rules}
 use Rattle.stream.specs.Feeding.{begun_of}
-use Rattle.stream.proofs.Turns.{SoFar, begun, at_end, at_stuck, as_long, one_more}
+use Rattle.stream.proofs.Turns.{begun, at_end, at_stuck, as_long, one_more}
 use Rattle.stream.proofs.feed.Goals as goal
 
 pub loop-i-init : goal.loop-i-init

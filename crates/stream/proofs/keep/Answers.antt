@@ -1,5 +1,4 @@
 -- `stream::keep` meets its contract: kept while there is room.
-use borrow.Author.Rules.{rules}
 use Rattle.stream.specs.Feeding.{begun_of}
 use Rattle.stream.proofs.Bytes.{has_room, is_full}
 use Rattle.stream.proofs.keep.Goals as goal

@@ -1,14 +1,13 @@
 -- `syllable::ask` meets its contract: each test is document 01's check, and the first that holds is answered.
 use mathlib.Core.Path.{◌≡◌, refl, sym, ap, ◌∙◌}
-use mathlib.Core.Bool.{Bool, false, true, not}
+use mathlib.Core.Bool.{Bool, false, not}
 use mathlib.Core.List.{List, map}
 use Prim.Native.Nat.{ℕ}
 use native.Mathlib.Omega.{arith}
-use lib.ListN.{length}
 use borrow.Author.Tests.{eq-eqb, ne_eqb}
 use Rattle.rules.specs.Letters.{is_nil, one_of, first_base}
 use Rattle.rules.specs.TheWord.{letter}
-use Rattle.rules.specs.TakingApart.{initial, nucleus, final, leftovers, initials, finals, fit, listed, fits}
+use Rattle.rules.specs.TakingApart.{initial, nucleus, final, leftovers, initials, finals, fit, listed}
 use Rattle.syllable.specs.Numbers.{Packs}
 use Rattle.syllable.specs.Checks.{sixth}
 use Rattle.parts.specs.declared.Parts.{Parts}
@@ -107,11 +106,11 @@ returns-then-not-tone_fits c =
     let five : false ≡ not (one_of (final (map letter c.args.s.now)) finals) = ap not (sym c.if-not-known_final.false ∙ c.known_final.ensures _ f) in
     let l : c.listed.result ≡ listed (initial (map letter c.args.s.now)) (nucleus (map letter c.args.s.now)) (final (map letter c.args.s.now)) = c.listed.ensures _ _ _ i n f in
     let six : false ≡ not (sixth c.args.free (map letter c.args.s.now)) =
-        ap not
-        (elim c.if-not-listed.branch [
-          then-not-listed+else-not-free+else-not-some_agrees w ↦ sym w.if-not-some_agrees.false ∙ w.some_agrees.ensures _ _ _ i n f ∙ ap (λ (b : Bool). sixth b (map letter c.args.s.now)) (sym w.if-not-free.false)
-          | else-not-listed w ↦ sym (listed_free c.args.free (map letter c.args.s.now) (sym l ∙ w.if-not-listed.false))
-        ]) in
+    ap not
+    (elim c.if-not-listed.branch [
+      | then-not-listed+else-not-free+else-not-some_agrees w ↦ sym w.if-not-some_agrees.false ∙ w.some_agrees.ensures _ _ _ i n f ∙ ap (λ (b : Bool). sixth b (map letter c.args.s.now)) (sym w.if-not-free.false)
+      | else-not-listed w ↦ sym (listed_free c.args.free (map letter c.args.s.now) (sym l ∙ w.if-not-listed.false))
+    ]) in
     answered _ _ _ one two three four five six (ap not (sym c.if-not-tone_fits.true ∙ c.tone_fits.ensures _ f))
 
 pub returns : goal.returns
@@ -127,9 +126,9 @@ returns c =
     let five : false ≡ not (one_of (final (map letter c.args.s.now)) finals) = ap not (sym c.if-not-known_final.false ∙ c.known_final.ensures _ f) in
     let l : c.listed.result ≡ listed (initial (map letter c.args.s.now)) (nucleus (map letter c.args.s.now)) (final (map letter c.args.s.now)) = c.listed.ensures _ _ _ i n f in
     let six : false ≡ not (sixth c.args.free (map letter c.args.s.now)) =
-        ap not
-        (elim c.if-not-listed.branch [
-          then-not-listed+else-not-free+else-not-some_agrees w ↦ sym w.if-not-some_agrees.false ∙ w.some_agrees.ensures _ _ _ i n f ∙ ap (λ (b : Bool). sixth b (map letter c.args.s.now)) (sym w.if-not-free.false)
-          | else-not-listed w ↦ sym (listed_free c.args.free (map letter c.args.s.now) (sym l ∙ w.if-not-listed.false))
-        ]) in
+    ap not
+    (elim c.if-not-listed.branch [
+      | then-not-listed+else-not-free+else-not-some_agrees w ↦ sym w.if-not-some_agrees.false ∙ w.some_agrees.ensures _ _ _ i n f ∙ ap (λ (b : Bool). sixth b (map letter c.args.s.now)) (sym w.if-not-free.false)
+      | else-not-listed w ↦ sym (listed_free c.args.free (map letter c.args.s.now) (sym l ∙ w.if-not-listed.false))
+    ]) in
     answered _ _ _ one two three four five six (ap not (sym c.if-not-tone_fits.false ∙ c.tone_fits.ensures _ f))

@@ -2,8 +2,6 @@
 use mathlib.Core.Path.{sym, ◌∙◌}
 use Prim.Native.Char.{code}
 use native.Mathlib.Omega.{arith}
-use borrow.Author.Rules.{rules}
-use borrow.Author.Tests.{not-true, not-false}
 use Rattle.rules.specs.Letters.{horn, words, small}
 use Rattle.targets.proofs.Ends.{no_end, other_end, same_end}
 use Rattle.targets.proofs.awaits_second_horn.Goals as goal

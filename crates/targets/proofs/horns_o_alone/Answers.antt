@@ -2,8 +2,6 @@
 use mathlib.Core.Path.{sym, ◌∙◌}
 use mathlib.Core.Bool.{◌||◌}
 use native.Mathlib.Omega.{arith}
-use borrow.Author.Rules.{rules}
-use borrow.Author.Tests.{not-true, not-false}
 use Rattle.targets.proofs.Ends.{no_letters, no_o, an_o}
 use Rattle.targets.proofs.horns_o_alone.Goals as goal
 

@@ -3,8 +3,6 @@ use mathlib.Core.Path.{sym, ◌∙◌}
 use mathlib.Core.List.{[], ◌∷◌}
 use Prim.Native.Char.{code}
 use native.Mathlib.Omega.{arith}
-use borrow.Author.Rules.{rules}
-use borrow.Author.Tests.{not-true, not-false}
 use Rattle.rules.specs.Letters.{plain, words, small}
 use Rattle.targets.proofs.Ends.{no_end, other_end, same_end}
 use Rattle.targets.proofs.is_h_kh_th.Goals as goal

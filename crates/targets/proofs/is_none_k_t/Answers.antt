@@ -2,7 +2,6 @@
 use mathlib.Core.Path.{◌∙◌}
 use mathlib.Core.Bool.{◌||◌}
 use native.Mathlib.Omega.{arith}
-use borrow.Author.Rules.{rules}
 use Rattle.targets.proofs.Ends.{nothing, one_k_t, more_than_one}
 use Rattle.targets.proofs.is_none_k_t.Goals as goal
 

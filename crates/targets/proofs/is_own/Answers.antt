@@ -3,9 +3,8 @@ use mathlib.Core.Path.{◌≡◌, refl, sym, ap, ◌∙◌}
 use mathlib.Core.Bool.{Bool, true, false, ◌&&◌}
 use Prim.Native.Nat.{ℕ}
 use lib.Dec.{eqb}
-use borrow.Author.Rules.{rules}
 use borrow.Author.Tests.{eqb-true}
-use Rattle.rules.specs.KeyRoles.{own, is_aeo}
+use Rattle.rules.specs.KeyRoles.{is_aeo}
 use Rattle.targets.proofs.is_own.Goals as goal
 
 other : (p : Bool) → false ≡ p && false

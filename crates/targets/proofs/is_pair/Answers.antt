@@ -1,5 +1,4 @@
 -- `targets::is_pair` meets its contract.
-use borrow.Author.Rules.{rules}
 use Rattle.targets.proofs.is_pair.Goals as goal
 
 pub returns : goal.returns

@@ -1,5 +1,4 @@
 -- `targets::is_single` meets its contract.
-use borrow.Author.Rules.{rules}
 use Rattle.targets.proofs.is_single.Goals as goal
 
 pub returns : goal.returns

@@ -1,11 +1,8 @@
 -- `targets::last_own` meets its contract. The loop's invariant: its letter does not stand from here on.
-use mathlib.Core.Path.{◌≡◌, sym, ap, subst, ◌∙◌}
-use Prim.Native.Nat.{suc, ◌-◌, ◌≤◌}
-use native.Mathlib.Omega.{arith}
+use Prim.Native.Nat.{◌≤◌}
 use lib.ListN.{length}
-use borrow.Author.Rules.{rules}
 use Rattle.rules.specs.KeyRoles.{own}
-use Rattle.targets.proofs.Turns.{none_from, none_at_end, none_before, last_found}
+use Rattle.targets.proofs.Turns.{none_from}
 use Rattle.targets.proofs.last_own.Given as goal
 
 abbrev pub invariant-loop-at : goal.invariant-loop-at

@@ -1,11 +1,8 @@
 -- `targets::last_wanted` meets its contract. The loop's invariant: no letter is wanted from here on.
-use mathlib.Core.Path.{◌≡◌, sym, subst, ◌∙◌}
-use Prim.Native.Nat.{suc, ◌-◌, ◌≤◌}
-use native.Mathlib.Omega.{arith}
+use Prim.Native.Nat.{◌≤◌}
 use lib.ListN.{length}
-use borrow.Author.Rules.{rules}
 use Rattle.targets.specs.Places.{wanted}
-use Rattle.targets.proofs.Turns.{none_from, none_at_end, none_before, last_found}
+use Rattle.targets.proofs.Turns.{none_from}
 use Rattle.targets.proofs.last_wanted.Given as goal
 
 abbrev pub invariant-loop-i : goal.invariant-loop-i

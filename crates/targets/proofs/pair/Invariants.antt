@@ -1,14 +1,12 @@
 -- `targets::pair` meets its contract. The loop's invariant: from here on the same is found as from the start.
-use mathlib.Core.Path.{◌≡◌, sym, ◌∙◌}
+use mathlib.Core.Path.{◌≡◌}
 use mathlib.Core.Bool.{false}
 use mathlib.Core.List.{map}
 use Prim.Native.Nat.{◌-◌, ◌≤◌}
-use native.Mathlib.Omega.{arith}
 use lib.ListN.{length, drop}
-use borrow.Author.Rules.{rules}
 use Rattle.rules.specs.TheWord.{letter}
 use Rattle.targets.specs.Places.{pair_place}
-use Rattle.targets.proofs.Turns.{from, pair_start, pair_here, pair_on, pair_end}
+use Rattle.targets.proofs.Turns.{from}
 use Rattle.targets.proofs.pair.Given as goal
 
 abbrev pub invariant-loop-i : goal.invariant-loop-i

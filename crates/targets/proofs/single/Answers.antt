@@ -1,14 +1,8 @@
 -- `targets::single` meets its contract. The loop's invariant: from here on the same is found as from the start.
-use mathlib.Core.Path.{◌≡◌, sym, ◌∙◌}
-use mathlib.Core.List.{map}
-use Prim.Native.Nat.{◌-◌}
+use mathlib.Core.Path.{sym, ◌∙◌}
 use native.Mathlib.Omega.{arith}
 use mathlib.Core.Bool.{false}
-use lib.ListN.{length, drop}
-use borrow.Author.Rules.{rules}
-use Rattle.rules.specs.TheWord.{letter}
-use Rattle.targets.specs.Places.{single_place}
-use Rattle.targets.proofs.Turns.{from, single_start, single_here, single_on, single_end}
+use Rattle.targets.proofs.Turns.{single_start, single_here, single_on, single_end}
 use Rattle.targets.proofs.single.Goals as goal
 
 pub loop-i-init : goal.loop-i-init

@@ -1,5 +1,4 @@
 -- `targets::wants` meets its contract: each arm is the clause of its key.
-use borrow.Author.Rules.{rules}
 use Rattle.targets.proofs.wants.Goals as goal
 
 pub returns-in-CircumflexOn : goal.returns-in-CircumflexOn

@@ -1,12 +1,7 @@
 -- `word::allowed_before` meets its contract. The loop's invariant: those passed and those from here on are all.
-use mathlib.Core.Path.{◌≡◌, sym, ◌∙◌}
-use Prim.Native.Nat.{◌-◌}
+use mathlib.Core.Path.{sym, ◌∙◌}
 use native.Mathlib.Omega.{arith}
-use lib.ListN.{length}
-use borrow.Author.Rules.{rules}
-use borrow.Author.Tests.{not-true, not-false}
-use Rattle.rules.specs.Refusals.{allowed_before}
-use Rattle.word.proofs.Lists.{counted, stops, goes, ends}
+use Rattle.word.proofs.Lists.{stops, goes, ends}
 use Rattle.word.proofs.allowed_before.Goals as goal
 
 pub loop-i-init : goal.loop-i-init

@@ -1,12 +1,9 @@
 -- `word::allowed_before` meets its contract. The loop's invariant: those passed and those from here on are all.
-use mathlib.Core.Path.{◌≡◌, sym, ◌∙◌}
+use mathlib.Core.Path.{◌≡◌}
 use Prim.Native.Nat.{◌-◌}
-use native.Mathlib.Omega.{arith}
 use lib.ListN.{length}
-use borrow.Author.Rules.{rules}
-use borrow.Author.Tests.{not-true, not-false}
 use Rattle.rules.specs.Refusals.{allowed_before}
-use Rattle.word.proofs.Lists.{counted, stops, goes, ends}
+use Rattle.word.proofs.Lists.{counted}
 use Rattle.word.proofs.allowed_before.Given as goal
 
 abbrev pub invariant-loop-i : goal.invariant-loop-i

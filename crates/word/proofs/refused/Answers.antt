@@ -1,6 +1,5 @@
 -- `word::refused` meets its contract.
 use mathlib.Core.Path.{ap}
-use borrow.Author.Rules.{rules}
 use Rattle.rules.specs.declared.Word.{Word}
 use Rattle.rules.specs.declared.TypeAnswer.TheVariants.{Refused}
 use Rattle.word.proofs.refused.Goals as goal

@@ -1,6 +1,5 @@
 -- `word::starts_with_d_stroke` meets its contract: the first letter, if there is one.
 use mathlib.Core.Path.{◌∙◌}
-use borrow.Author.Rules.{rules}
 use Rattle.word.proofs.Answers.{no_first, first_is}
 use Rattle.word.proofs.starts_with_d_stroke.Goals as goal
 

@@ -1,9 +1,8 @@
 -- `word::type_all` meets its contract: each answer is the row of its test, or the keys typed.
-use mathlib.Core.Path.{◌≡◌, sym, ap, subst, ◌∙◌}
-use mathlib.Core.Bool.{not, false}
+use mathlib.Core.Path.{sym, ap, subst, ◌∙◌}
+use mathlib.Core.Bool.{not}
 use native.Mathlib.Omega.{arith}
 use lib.Dec.{T}
-use borrow.Author.Rules.{rules}
 use borrow.Author.Tests.{not-false}
 use Rattle.rules.specs.declared.Word.{Word}
 use Rattle.rules.specs.declared.TypeAnswer.TheVariants.{AllTyped}

@@ -1,11 +1,7 @@
 -- `word::typed_all` meets its contract. The loop's invariant: the bytes are those of the word with the keys passed, typed.
-use mathlib.Core.Path.{◌≡◌, refl, ap, ◌∙◌}
-use Prim.Native.Nat.{◌-◌, ◌≤◌}
+use mathlib.Core.Path.{refl, ap, ◌∙◌}
 use native.Mathlib.Omega.{arith}
-use lib.ListN.{length, take, replicate}
-use borrow.Author.Rules.{rules}
-use Rattle.rules.specs.TheWord.{new_word, holding}
-use Rattle.rules.specs.WhatComesBack.{typed}
+use lib.ListN.{replicate}
 use Rattle.rules.specs.declared.Start.{Start}
 use Rattle.layout.specs.Places.{as_bytes}
 use Rattle.layout.proofs.Answers.{written}
@@ -24,11 +20,10 @@ pub loop-i-smaller : goal.loop-i-smaller
 loop-i-smaller c = omega arith
 
 pub loop-i-preserved : goal.loop-i-preserved
-loop-i-preserved c =
-    (
-      omega arith,
-      one_more_in c.args.mode c.args.keys.now c.requires.0 c.requires.1 c.requires.2 c.loop-i.i c.loop-i-test.true c.loop-i.invariant.1 c.step_at.ensures.1,
-    )
+loop-i-preserved c = (
+  omega arith,
+  one_more_in c.args.mode c.args.keys.now c.requires.0 c.requires.1 c.requires.2 c.loop-i.i c.loop-i-test.true c.loop-i.invariant.1 c.step_at.ensures.1,
+)
 
 pub slice_bounds-read-end : goal.slice_bounds-read-end
 slice_bounds-read-end c = long_so_far c.args.mode c.args.keys.now c.requires.0 c.requires.1 c.requires.2 c.loop-i.i c.loop-i.invariant.0 c.loop-i.invariant.1

@@ -1,15 +1,10 @@
 -- `word::typed_all` meets its contract. The loop's invariant: the bytes are those of the word with the keys passed, typed.
-use mathlib.Core.Path.{◌≡◌, refl, ap, ◌∙◌}
+use mathlib.Core.Path.{◌≡◌}
 use Prim.Native.Nat.{◌-◌, ◌≤◌}
-use native.Mathlib.Omega.{arith}
-use lib.ListN.{length, take, replicate}
-use borrow.Author.Rules.{rules}
+use lib.ListN.{length, take}
 use Rattle.rules.specs.TheWord.{new_word, holding}
 use Rattle.rules.specs.WhatComesBack.{typed}
-use Rattle.rules.specs.declared.Start.{Start}
 use Rattle.layout.specs.Places.{as_bytes}
-use Rattle.layout.proofs.Answers.{written}
-use Rattle.word.proofs.Lists.{long_so_far, one_more_in, all_typed, started}
 use Rattle.word.proofs.typed_all.Given as goal
 
 abbrev pub invariant-loop-i : goal.invariant-loop-i

@@ -1,10 +1,8 @@
 -- `letters::vowels::find` meets its contract. The loop's invariant: what is found is what is found from the i-th entry on, in the definition's table, which the code's is.
-use mathlib.Core.Path.{◌≡◌, ◌∙◌, sym}
-use Prim.Native.Nat.{◌≤◌, ◌-◌}
+use mathlib.Core.Path.{◌∙◌, sym}
 use native.Mathlib.Omega.{arith}
-use lib.ListN.{length, drop}
 use Rattle.letters.specs.Rows.{point_table}
-use Rattle.letters.specs.Decoding.{found, found_in}
+use Rattle.letters.specs.Decoding.{found}
 use Rattle.letters.proofs.Points.{right_at}
 use Rattle.letters.proofs.Finds.{not_stroke, small_read, capital_read, goes_on, not_read}
 use Rattle.letters.proofs.vowels.find.Goals as goal

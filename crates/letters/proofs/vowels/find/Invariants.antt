@@ -1,12 +1,9 @@
 -- `letters::vowels::find` meets its contract. The loop's invariant: what is found is what is found from the i-th entry on, in the definition's table, which the code's is.
-use mathlib.Core.Path.{◌≡◌, ◌∙◌, sym}
+use mathlib.Core.Path.{◌≡◌}
 use Prim.Native.Nat.{◌≤◌, ◌-◌}
-use native.Mathlib.Omega.{arith}
-use lib.ListN.{length, drop}
+use lib.ListN.{drop}
 use Rattle.letters.specs.Rows.{point_table}
 use Rattle.letters.specs.Decoding.{found, found_in}
-use Rattle.letters.proofs.Points.{right_at}
-use Rattle.letters.proofs.Finds.{not_stroke, small_read, capital_read, goes_on, not_read}
 use Rattle.letters.proofs.vowels.find.Given as goal
 
 abbrev pub invariant-loop-i : goal.invariant-loop-i

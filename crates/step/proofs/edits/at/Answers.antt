@@ -2,7 +2,6 @@
 use mathlib.Core.Path.{sym, ◌∙◌}
 use native.Mathlib.Omega.{arith}
 use lib.ListN.{length-set}
-use borrow.Author.Rules.{rules}
 use Rattle.step.proofs.Stored.{taken_off, one_stays, one_back}
 use Rattle.step.proofs.edits.at.Goals as goal
 

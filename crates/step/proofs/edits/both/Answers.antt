@@ -3,7 +3,6 @@ use mathlib.Core.Path.{sym, ap₂, ◌∙◌}
 use mathlib.Core.Bool.{◌&&◌}
 use Prim.Native.Nat.{ℕ}
 use lib.Dec.{eqb}
-use borrow.Author.Rules.{rules}
 use Rattle.rules.specs.Letters.{horn}
 use Rattle.step.proofs.Stored.{pair_off, pair_stays, pair_back}
 use Rattle.step.proofs.edits.both.Goals as goal

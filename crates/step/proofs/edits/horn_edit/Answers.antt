@@ -1,6 +1,5 @@
 -- `step::edits::horn_edit` meets its contract: the o alone, the pair, or the single letter, lies in the word.
 use mathlib.Core.Path.{refl, sym, ◌∙◌}
-use borrow.Author.Rules.{rules}
 use native.Mathlib.Omega.{arith}
 use Rattle.rules.specs.Letters.{horn}
 use Rattle.step.proofs.Aimings.{as_found, alone_inside, horn_alone, alone_aimed, horn_pair, pair_aimed, horn_single, single_aimed}

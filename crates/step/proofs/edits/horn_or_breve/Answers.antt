@@ -4,7 +4,6 @@ use mathlib.Core.List.{List, map}
 use Prim.Native.Nat.{ℕ}
 use lib.Dec.{lit<}
 use lib.ListN.{take}
-use borrow.Author.Rules.{rules}
 use Rattle.rules.specs.Letters.{horn, breve}
 use Rattle.rules.specs.TheWord.{letter}
 use Rattle.rules.specs.KeyRoles.{asked, horned, breved}

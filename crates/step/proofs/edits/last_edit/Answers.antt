@@ -1,6 +1,5 @@
 -- `step::edits::last_edit` meets its contract: the place that is found lies in the word.
 use mathlib.Core.Path.{refl, sym, ◌∙◌}
-use borrow.Author.Rules.{rules}
 use Rattle.targets.specs.Places.{wanted}
 use Rattle.step.proofs.Aimings.{as_found, last_at, last_aimed}
 use Rattle.step.proofs.edits.last_edit.Goals as goal

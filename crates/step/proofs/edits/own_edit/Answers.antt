@@ -1,7 +1,6 @@
 -- `step::edits::own_edit` meets its contract: the place that is found lies in the word.
 use mathlib.Core.Path.{refl, sym, ◌∙◌}
 use lib.Dec.{lit<}
-use borrow.Author.Rules.{rules}
 use Rattle.rules.specs.Letters.{circumflex}
 use Rattle.rules.specs.KeyRoles.{own}
 use Rattle.step.proofs.Aimings.{as_found, last_at, last_aimed}

@@ -3,7 +3,6 @@ use mathlib.Core.Path.{◌≡◌, refl, sym, ap, subst, ◌∙◌}
 use mathlib.Core.List.{List, map}
 use Prim.Native.Nat.{ℕ}
 use lib.ListN.{take}
-use borrow.Author.Rules.{rules}
 use Rattle.rules.specs.Letters.{Letters, circumflex, breve}
 use Rattle.rules.specs.TheWord.{letter}
 use Rattle.rules.specs.KeyRoles as Rules

@@ -6,7 +6,6 @@ use Prim.Native.Nat.{ℕ, ◌-◌, ◌<◌}
 use native.Mathlib.Omega.{arith}
 use lib.Dec.{eqb}
 use lib.ListN.{take, drop}
-use borrow.Author.Rules.{rules}
 use Rattle.rules.specs.TakingApart.{admitted}
 use Rattle.rules.specs.TheWord.{letter}
 use Rattle.step.proofs.Arrays.{is_front}

@@ -1,5 +1,4 @@
 -- `step::keeping::put_appender` meets its contract: one store, unless the key acted.
-use borrow.Author.Rules.{rules}
 use Rattle.step.proofs.States.{adds}
 use Rattle.step.proofs.keeping.put_appender.Goals as goal
 

@@ -3,7 +3,6 @@ use mathlib.Core.Path.{ap}
 use Prim.Native.Nat.{ℕ}
 use native.Mathlib.Omega.{arith}
 use lib.ListN.{set, length-set}
-use borrow.Author.Rules.{rules}
 use Rattle.layout.proofs.Answers.{mark_byte_law}
 use Rattle.step.proofs.keeping.put_numbers.Goals as goal
 

@@ -3,7 +3,6 @@ use mathlib.Core.Path.{sym, ap, ◌∙◌}
 use mathlib.Core.List.{List}
 use Prim.Native.Nat.{ℕ}
 use lib.ListN.{set}
-use borrow.Author.Rules.{rules}
 use Rattle.rules.specs.TheWord.{no_key, shaped_on}
 use Rattle.step.specs.LentLetters.{by_then, shaped_then}
 use Rattle.step.proofs.States.{acts}

@@ -2,7 +2,6 @@
 use mathlib.Core.Path.{sym, ap, ◌∙◌}
 use mathlib.Core.Bool.{Bool, ◌&&◌}
 use Prim.Native.Nat.{◌%◌, ◌/◌}
-use borrow.Author.Tests.{not-true, not-false}
 use Rattle.syllable.specs.Numbers.{agree_digit}
 use Rattle.syllable.proofs.Agreements.{agree_is}
 use Rattle.syllable.proofs.nuclei.agrees.Goals as goal

@@ -1,7 +1,7 @@
 -- `syllable::nuclei::could_be` meets its contract. Assumes nothing.
 use mathlib.Core.Path.{sym, ◌∙◌}
 use mathlib.Core.Bool.{◌&&◌, ◌||◌}
-use borrow.Author.Tests.{eq-eqb, ne_eqb, not-true, not-false}
+use borrow.Author.Tests.{eq-eqb, ne_eqb}
 use Rattle.rules.specs.Letters.{is_nil}
 use Rattle.rules.specs.TakingApart.{stands, takes}
 use Rattle.syllable.specs.Nuclei.{row_of}

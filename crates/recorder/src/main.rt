@@ -288,7 +288,7 @@ fn pass(
     }
 }
 
-// The whole input read. Nothing says that it ends, so the loop counts its turns down, from a number that no run uses up.
+// The whole input read. Nothing says that it ends, so the loop counts its turns, up to a number that no run uses up.
 fn read_all(rt: &HostRuntime, presses: &mut [u64; MOST], lines: &mut [u64; MOST]) -> Passed {
     let mut block = [0; BLOCK];
     let mut drill = Drill {

@@ -57,6 +57,10 @@ module _ (w : Word) where
       pub text_made : take (n - 0) buffer ≡ its_text
       text_made = its_front w range old room (Wrote n) (ap (λ (x : Written). x.answer) shows) n refl buffer (ap (λ (x : Written). x.output) shows)
 
+      -- a text that is compared with what is made is compared with the word's
+      pub compared : (text : List ℕ) {answer : Bool} → answer ≡ same_bytes text (take (n - 0) buffer) → same_bytes text its_text ≡ answer
+      compared text e = ap (same_bytes text) (sym text_made) ∙ sym e
+
     abbrev decide : ℕ → Decision
     decide = decided_by (eqb w.acted 0 && eqb w.undone 0) w.closed (map letter lent)
 

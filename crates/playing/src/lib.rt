@@ -6,11 +6,12 @@ ghost use Rattle.std.specs.Prelude.{◌≡◌, min};
 
 use recording::{BeginAnswer, KeyPress, Press, Progress, SPACE};
 use replay::WordAnswer;
-use rules::{Decision, StepAnswer, Word};
+use rules::{Decision, Word};
 use std::process::ExitCode;
 
 mod blocks;
 mod columns;
+mod typing;
 
 const BLOCK: usize = 16384;
 
@@ -84,56 +85,6 @@ fn least(a: usize, b: usize) -> usize
     ensures { result ≡ min a b }
 {
     if a < b { a } else { b }
-}
-
-// A key typed into the word that has begun, and its line. The word takes the key: the step asked that of the recording.
-fn type_key(
-    rt: &HostRuntime,
-    out: &mut [u8; OUTPUT],
-    waiting: Waiting,
-    word: &mut [u8; layout::LENGTH],
-    x: KeyPress,
-) -> Waiting {
-    let answer = step::step_at(word, x.key);
-    let StepAnswer::Did(outcome) = answer else {
-        return waiting;
-    };
-    let key = [x.key];
-    let a = columns::put_column(rt, out, waiting, x.milliseconds as u64);
-    let b = columns::put(rt, out, a, &key);
-    let c = columns::put(rt, out, b, b" ");
-    let d = columns::put_outcome(rt, out, c, outcome);
-    let reading = layout::read(word);
-    columns::put_shown(rt, out, d, reading.word)
-}
-
-// A new word in the mode, for its keys to be typed into.
-fn begin_word(word: &mut [u8; layout::LENGTH], mode: u8) {
-    let start = word::start(mode);
-    layout::write(start.word, word);
-}
-
-// A key that is no space: kept for the word's end, and with keys typed at once.
-fn play_key(
-    rt: &HostRuntime,
-    out: &mut [u8; OUTPUT],
-    p: Play,
-    keys: &mut [u8; Word::KEYS],
-    word: &mut [u8; layout::LENGTH],
-    x: KeyPress,
-) -> Waiting {
-    let progress = p.progress;
-    let n = progress.in_word;
-    if n < Word::KEYS {
-        keys[n] = x.key;
-    }
-    if !p.with_keys {
-        return p.waiting;
-    }
-    if n == 0 {
-        begin_word(word, progress.mode);
-    }
-    type_key(rt, out, p.waiting, word, x)
 }
 
 fn with_word(t: Totals, decision: Decision, acted: u8, undone: u8, appended: u8) -> Totals {
@@ -235,7 +186,7 @@ fn played(
     if x.key == SPACE {
         return play_space(rt, out, p, keys, x);
     }
-    let waiting = play_key(rt, out, p, keys, word, x);
+    let waiting = typing::play_key(rt, out, p, keys, word, x);
     let mut next = p;
     next.waiting = waiting;
     next

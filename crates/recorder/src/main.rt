@@ -5,10 +5,13 @@
 
 ghost use Rattle.std.specs.Prelude.{◌≡◌, min};
 
+use messages::{say, say_fault, say_refused};
 use recording::SPACE;
-use rules::{Refusal, Word, WriteAnswer};
+use rules::{Word, WriteAnswer};
 use std::io::{ErrorKind, Read};
 use std::process::ExitCode;
+
+mod messages;
 
 const BLOCK: usize = 16384;
 
@@ -73,14 +76,6 @@ enum Next {
 struct Passed {
     drill: Drill,
     next: Next,
-}
-
-fn say(rt: &HostRuntime, text: &[u8]) {
-    let _ = rt.stderr().write_all(text);
-}
-
-fn say_number(rt: &HostRuntime, n: u64) {
-    let _ = rt.stderr().print(n);
 }
 
 fn least(a: usize, b: usize) -> usize
@@ -311,53 +306,6 @@ fn read_all(rt: &HostRuntime, presses: &mut [u64; MOST], lines: &mut [u64; MOST]
     Passed {
         drill: drill,
         next: Next::Failed,
-    }
-}
-
-fn say_fault(rt: &HostRuntime, line: u64, fault: Fault) {
-    say(rt, b"record: line ");
-    say_number(rt, line);
-    match fault {
-        Fault::NotAMode => say(
-            rt,
-            b": the first line is T or V, for Telex or VNI, and nothing else\n",
-        ),
-        Fault::NotATime => say(
-            rt,
-            b": a line is milliseconds, or milliseconds, a space and keys\n",
-        ),
-        Fault::NoKeys => say(
-            rt,
-            b": no key stands behind the space; milliseconds alone, without it, are the space\n",
-        ),
-        Fault::TooMany => say(rt, b": more than 16384 keys, spaces among them\n"),
-    }
-}
-
-// What the writer refuses, with the place of the key among all keys, from 0, and its line.
-fn say_refused(rt: &HostRuntime, r: Refusal, lines: &[u64; MOST]) {
-    let number = r.number;
-    let place = r.value;
-    say(rt, b"record: ! ");
-    say_number(rt, number as u64);
-    say(rt, b" ");
-    say_number(rt, place as u64);
-    if MOST <= place {
-        say(rt, b"\n");
-        return;
-    }
-    say(rt, b": line ");
-    say_number(rt, lines[place]);
-    say(rt, b", key ");
-    say_number(rt, place as u64);
-    match number {
-        2 => say(rt, b" counted from 0: more than 32 keys in a word\n"),
-        3 => say(rt, b" counted from 0: it is not allowed in this mode\n"),
-        11 => say(
-            rt,
-            b" counted from 0: more than 4294967295 milliseconds so far\n",
-        ),
-        _ => say(rt, b" counted from 0\n"),
     }
 }
 

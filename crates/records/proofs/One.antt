@@ -11,7 +11,7 @@ use Rattle.records.specs.contracts.places_wrong as places-wrong
 use Rattle.records.proofs.places_wrong.Reads as places-wrong-reads
 use Rattle.records.specs.contracts.lent_out_of_range as lent-out-of-range
 use Rattle.records.proofs.lent_out_of_range.Reads as lent-out-of-range-reads
-use Rattle.records.specs.contracts.numbers_of as Numbers-of
+use Rattle.records.specs.contracts.numbers_of as numbers-of
 use Rattle.records.proofs.numbers_of.Reads as numbers-of-reads
 use Rattle.records.specs.contracts.numbers_wrong as numbers-wrong
 use Rattle.records.proofs.numbers_wrong.Reads as numbers-wrong-reads
@@ -30,7 +30,7 @@ places_wrong_one κs a r r' e e' p p' = p ∙ sym p'
 pub lent_out_of_range_one : (κs : Lfts 4) (a : Args lent-out-of-range.signature κs) (r r' : Res lent-out-of-range.signature κs) (e e' : AtExit lent-out-of-range.ended κs) → lent-out-of-range-reads.Post κs a r e → lent-out-of-range-reads.Post κs a r' e' → r ≡ r'
 lent_out_of_range_one κs a r r' e e' p p' = p ∙ sym p'
 
-pub numbers_of_one : (κs : Lfts 0) (a : Args Numbers-of.signature κs) (r r' : Res Numbers-of.signature κs) (e e' : AtExit Numbers-of.ended κs) → numbers-of-reads.Post κs a r e → numbers-of-reads.Post κs a r' e' → r ≡ r'
+pub numbers_of_one : (κs : Lfts 0) (a : Args numbers-of.signature κs) (r r' : Res numbers-of.signature κs) (e e' : AtExit numbers-of.ended κs) → numbers-of-reads.Post κs a r e → numbers-of-reads.Post κs a r' e' → r ≡ r'
 numbers_of_one κs a r r' e e' p p' = p ∙ sym p'
 
 pub numbers_wrong_one : (κs : Lfts 0) (a : Args numbers-wrong.signature κs) (r r' : Res numbers-wrong.signature κs) (e e' : AtExit numbers-wrong.ended κs) → numbers-wrong-reads.Post κs a r e → numbers-wrong-reads.Post κs a r' e' → r ≡ r'

@@ -6,4 +6,5 @@ pub mod Agreements
 pub mod Bases
 pub mod Searches
 pub mod Asks
+pub mod ChecksPassed
 pub mod One

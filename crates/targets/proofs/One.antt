@@ -8,7 +8,7 @@ use Rattle.targets.proofs.last_wanted.Reads as last-wanted-reads
 use Rattle.targets.specs.contracts.last_own as last-own
 use Rattle.targets.proofs.last_own.Reads as last-own-reads
 use Rattle.targets.specs.contracts.pair as pair
-use Rattle.targets.proofs.pair.Reads as Pair-reads
+use Rattle.targets.proofs.pair.Reads as pair-reads
 use Rattle.targets.specs.contracts.single as single
 use Rattle.targets.proofs.single.Reads as single-Reads
 use Rattle.targets.specs.contracts.horns_o_alone as horns-o-alone
@@ -22,7 +22,7 @@ last_wanted_one κs a r r' e e' p p' = p ∙ sym p'
 pub last_own_one : (κs : Lfts 1) (a : Args last-own.signature κs) (r r' : Res last-own.signature κs) (e e' : AtExit last-own.ended κs) → last-own-reads.Post κs a r e → last-own-reads.Post κs a r' e' → r ≡ r'
 last_own_one κs a r r' e e' p p' = p ∙ sym p'
 
-pub pair_one : (κs : Lfts 1) (a : Args pair.signature κs) (r r' : Res pair.signature κs) (e e' : AtExit pair.ended κs) → Pair-reads.Post κs a r e → Pair-reads.Post κs a r' e' → r ≡ r'
+pub pair_one : (κs : Lfts 1) (a : Args pair.signature κs) (r r' : Res pair.signature κs) (e e' : AtExit pair.ended κs) → pair-reads.Post κs a r e → pair-reads.Post κs a r' e' → r ≡ r'
 pair_one κs a r r' e e' p p' = p ∙ sym p'
 
 pub single_one : (κs : Lfts 1) (a : Args single.signature κs) (r r' : Res single.signature κs) (e e' : AtExit single.ended κs) → single-Reads.Post κs a r e → single-Reads.Post κs a r' e' → r ≡ r'

@@ -1,15 +1,13 @@
 -- `commit::judge` meets its contract: what is made of the word's letters is its text and its decision, and the ruling follows from the comparison and the decision.
-use mathlib.Core.Path.{◌≡◌, sym, ap, ◌∙◌}
+use mathlib.Core.Path.{◌≡◌, sym, ◌∙◌}
 use native.Mathlib.Omega.{arith}
 use lib.Dec.{lit≤}
 use lib.ListN.{length}
 use Rattle.rules.specs.TheWord.{word_of}
-use Rattle.rules.specs.CodePoints.{shown}
 use Rattle.rules.specs.Decision.{decision}
-use Rattle.rules.specs.Refusals.{same_bytes}
 use Rattle.rules.proofs.Range.{few_letters}
 use Rattle.rules.proofs.TextFits.{text_fits}
-use Rattle.commit.proofs.Answers.{text_long, text_made, decides, other_text, kept, restored}
+use Rattle.commit.proofs.Answers.{text_long, compared, decides, other_text, kept, restored}
 use Rattle.commit.proofs.judge.Goals as goal
 
 pub slice_bounds-letters-end : goal.slice_bounds-letters-end
@@ -23,27 +21,23 @@ slice_bounds-same-end c =
     let long = text_long c.args.w c.requires c.in_room-n.result _ _ (lit≤ tt) c.in_room-n.ensures.0 c.in_room-n.ensures.1 in
     omega (arith, long, all, text_fits c.args.w c.requires)
 
--- the text is compared with the word's
 pub returns-then-not-same : goal.returns-then-not-same
 returns-then-not-same c =
     let w = c.args.w in
-    let compared : same_bytes c.args.text.now (shown (word_of w).state) ≡ c.same.result =
-    ap (same_bytes c.args.text.now) (sym (text_made w c.requires c.in_room-n.result _ _ (lit≤ tt) c.in_room-n.ensures.0 c.in_room-n.ensures.1)) ∙ sym c.same.ensures in
-    c.refused.ensures ∙ other_text w c.args.text.now (compared ∙ c.if-not-same.true)
+    let same = compared w c.requires c.in_room-n.result _ _ (lit≤ tt) c.in_room-n.ensures.0 c.in_room-n.ensures.1 c.args.text.now c.same.ensures in
+    c.refused.ensures ∙ other_text w c.args.text.now (same ∙ c.if-not-same.true)
 
 pub returns-in-Keep : goal.returns-in-Keep
 returns-in-Keep c =
     let w = c.args.w in
-    let compared : same_bytes c.args.text.now (shown (word_of w).state) ≡ c.same.result =
-    ap (same_bytes c.args.text.now) (sym (text_made w c.requires c.in_room-n.result _ _ (lit≤ tt) c.in_room-n.ensures.0 c.in_room-n.ensures.1)) ∙ sym c.same.ensures in
+    let same = compared w c.requires c.in_room-n.result _ _ (lit≤ tt) c.in_room-n.ensures.0 c.in_room-n.ensures.1 c.args.text.now c.same.ensures in
     let long = text_long w c.requires c.in_room-n.result _ _ (lit≤ tt) c.in_room-n.ensures.0 c.in_room-n.ensures.1 in
     let by_word : c.decided-decision.result ≡ decision (word_of w) = decides w c.requires _ _ c.verdict-verdict.ensures c.decided-decision.ensures in
-    kept w c.args.text.now c.in_room-n.result (compared ∙ c.if-not-same.false) long (sym by_word ∙ c.in-Keep.is)
+    kept w c.args.text.now c.in_room-n.result (same ∙ c.if-not-same.false) long (sym by_word ∙ c.in-Keep.is)
 
 pub returns : goal.returns
 returns c =
     let w = c.args.w in
-    let compared : same_bytes c.args.text.now (shown (word_of w).state) ≡ c.same.result =
-    ap (same_bytes c.args.text.now) (sym (text_made w c.requires c.in_room-n.result _ _ (lit≤ tt) c.in_room-n.ensures.0 c.in_room-n.ensures.1)) ∙ sym c.same.ensures in
+    let same = compared w c.requires c.in_room-n.result _ _ (lit≤ tt) c.in_room-n.ensures.0 c.in_room-n.ensures.1 c.args.text.now c.same.ensures in
     let by_word : c.decided-decision.result ≡ decision (word_of w) = decides w c.requires _ _ c.verdict-verdict.ensures c.decided-decision.ensures in
-    restored w c.args.text.now (compared ∙ c.if-not-same.false) (sym by_word ∙ c.in_default.is)
+    restored w c.args.text.now (same ∙ c.if-not-same.false) (sym by_word ∙ c.in_default.is)

@@ -1,4 +1,4 @@
--- `syllable::code` meets its contract. Assumes nothing.
+-- `syllable::packed` meets its contract. Assumes nothing.
 use mathlib.Core.Path.{◌≡◌, ap, ◌∙◌}
 use mathlib.Core.List.{map}
 use Prim.Native.Nat.{ℕ, ◌+◌, ◌*◌}

@@ -90,24 +90,24 @@ module _ (bs : List ℕ) (key : ℕ) where
         (p ∙ ap (λ (x : SteppedAt). x.answer) q, ap (λ (x : SteppedAt). x.bytes) q)
 
     -- a key that is not taken, by the one question of both
-    module _ (range : out_of_range r.word ≡ false) {typed : ℕ} (many : typed ≡ r.word.typed) {allowed : Bool} (k : allowed ≡ is_key r.word.mode key) where
-      pub takes_none : leb most_keys typed || not allowed ≡ true → {a : StepAnswer} → a ≡ not_taken typed → (a ≡ (step_at bs key).answer) × (bs ≡ (step_at bs key).bytes)
-      takes_none f {a} p = go (leb most_keys typed) refl f
+    module _ (range : out_of_range r.word ≡ false) {allowed : Bool} (k : allowed ≡ is_key r.word.mode key) where
+      pub takes_none : leb most_keys r.word.typed || not allowed ≡ true → {a : StepAnswer} → a ≡ not_taken r.word.typed → (a ≡ (step_at bs key).answer) × (bs ≡ (step_at bs key).bytes)
+      takes_none f {a} p = go (leb most_keys r.word.typed) refl f
         where
           by_test : Bool → StepAnswer
-          by_test b = elim b [ true ↦ refused_with 2 most_keys | false ↦ refused_with 3 typed ]
+          by_test b = elim b [ true ↦ refused_with 2 most_keys | false ↦ refused_with 3 r.word.typed ]
 
-          go : (b : Bool) → leb most_keys typed ≡ b → b || not allowed ≡ true → (a ≡ (step_at bs key).answer) × (bs ≡ (step_at bs key).bytes)
-          go true m h = refuses 2 most_keys (p ∙ ap by_test m) (full r.word key range (omega (arith, leb-true most_keys typed m, many)))
+          go : (b : Bool) → leb most_keys r.word.typed ≡ b → b || not allowed ≡ true → (a ≡ (step_at bs key).answer) × (bs ≡ (step_at bs key).bytes)
+          go true m h = refuses 2 most_keys (p ∙ ap by_test m) (full r.word key range (omega (arith, leb-true most_keys r.word.typed m)))
           go false m h =
-              refuses 3 r.word.typed (p ∙ ap by_test m ∙ ap (refused_with 3) many) (no_key r.word key range (omega (arith, leb-false most_keys typed m, many)) (sym k ∙ not-true allowed h))
+              refuses 3 r.word.typed (p ∙ ap by_test m) (no_key r.word key range (omega (arith, leb-false most_keys r.word.typed m)) (sym k ∙ not-true allowed h))
 
-      pub takes_it : leb most_keys typed || not allowed ≡ false → (typed < most_keys) × (is_key r.word.mode key ≡ true)
-      takes_it f = go (leb most_keys typed) refl f
+      pub takes_it : leb most_keys r.word.typed || not allowed ≡ false → (r.word.typed < most_keys) × (is_key r.word.mode key ≡ true)
+      takes_it f = go (leb most_keys r.word.typed) refl f
         where
-          go : (b : Bool) → leb most_keys typed ≡ b → b || not allowed ≡ false → (typed < most_keys) × (is_key r.word.mode key ≡ true)
+          go : (b : Bool) → leb most_keys r.word.typed ≡ b → b || not allowed ≡ false → (r.word.typed < most_keys) × (is_key r.word.mode key ≡ true)
           go true m h = let z : ◌≡◌ {A = ℕ} 0 1 = cc in absurd (omega arith)
-          go false m h = (leb-false most_keys typed m, sym k ∙ not-false allowed h)
+          go false m h = (leb-false most_keys r.word.typed m, sym k ∙ not-false allowed h)
 
     -- the key typed, and the letters put into their place
     pub types : {o : Outcome} {letters new : List ℕ} {v : Word} → Whole r.word → v ≡ r.word → TypedAt (step v key) bs o letters new → {put : List ℕ} → put ≡ letters_put letters new →

@@ -318,21 +318,15 @@ pub fn step_at(lent: &mut [u8], key: u8) -> StepAnswer
     let w = reading.word;
     let mode = w.mode;
     let n = records::numbers_of(w);
-    let appended_by = w.appended_by;
-    let shaped_by = w.shaped_by;
-    if records::numbers_wrong(mode, n)
-        | records::places_wrong(n.typed, n.count, &appended_by, &shaped_by, w.toned_by)
-    {
+    if records::numbers_wrong(&w) | records::places_wrong(&w) {
         return refused(8, 0);
     }
-    let at = n.typed as usize;
-    let kept = w.keys;
-    if !records::keys_allowed(mode, &kept[0..at]) {
+    let at = w.typed as usize;
+    if !records::keys_allowed(mode, &w.keys[..at]) {
         return refused(8, 0);
     }
     let mut letters = layout::letters_of(lent);
-    let count = n.count as usize;
-    if !records::letters_allowed(mode, &letters[0..count]) {
+    if !records::letters_allowed(mode, &letters[..w.count as usize]) {
         return refused(8, 0);
     }
     if (Word::KEYS <= at) | !keys::is_key(mode, key) {

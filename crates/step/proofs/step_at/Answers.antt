@@ -5,13 +5,14 @@ use mathlib.Core.List.{List}
 use Prim.Native.Nat.{ℕ}
 use native.Mathlib.Omega.{arith}
 use lib.ListN.{length}
+use lib.Seq.{length-take-le}
 use borrow.Author.Tests.{not-true, not-false}
 use Rattle.rules.specs.Refusals.{out_of_range}
 use Rattle.rules.proofs.StaysInRange.{Whole}
 use Rattle.layout.specs.declared.RecordRead.{RecordRead}
 use Rattle.layout.proofs.RoundTrips.{read_whole}
 use Rattle.records.specs.declared.Numbers.{Numbers}
-use Rattle.records.proofs.Conditions.{out_by_numbers, at_most, out_by_keys, out_by_letters}
+use Rattle.records.proofs.Conditions.{few, by_numbers, by_keys, by_letters}
 use Rattle.step.proofs.Steps.{out_of_range_law}
 use Rattle.step.proofs.StepsAt.{no_record, refuses, takes_none, takes_it, held, ready_at, types}
 use Rattle.step.proofs.step_at.Goals as goal
@@ -25,28 +26,28 @@ returns-then-numbers_wrong-places_wrong c =
     let bs = c.args.lent.now in
     let w = c.read-reading.result.word in
     refuses bs c.args.key c.read-reading.result c.read-reading.ensures (not-false _ c.if-not-reading.false) 8 0 c.refused-then-numbers_wrong-places_wrong.ensures
-    (out_of_range_law w c.args.key (out_by_numbers w c.numbers_of-n.result c.numbers_of-n.ensures c.numbers_wrong.ensures c.places_wrong.ensures c.if-numbers_wrong-places_wrong.true))
+    (out_of_range_law w c.args.key (by_numbers w c.numbers_wrong.ensures c.places_wrong.ensures c.if-numbers_wrong-places_wrong.true))
 
 pub slice_bounds-keys_allowed-end : goal.slice_bounds-keys_allowed-end
 slice_bounds-keys_allowed-end c =
     let bs = c.args.lent.now in
     let w = c.read-reading.result.word in
     let whole : Whole w = subst (λ (x : RecordRead). Whole x.word) (sym c.read-reading.ensures) (read_whole bs) in
-    omega (arith, whole.keys, (at_most w c.numbers_of-n.result c.numbers_of-n.ensures c.numbers_wrong.ensures c.places_wrong.ensures c.if-numbers_wrong-places_wrong.false).0)
+    omega (arith, whole.keys, (few w c.numbers_wrong.ensures c.places_wrong.ensures c.if-numbers_wrong-places_wrong.false).0)
 
 pub returns-then-not-keys_allowed : goal.returns-then-not-keys_allowed
 returns-then-not-keys_allowed c =
     let bs = c.args.lent.now in
     let w = c.read-reading.result.word in
     refuses bs c.args.key c.read-reading.result c.read-reading.ensures (not-false _ c.if-not-reading.false) 8 0 c.refused-then-not-keys_allowed.ensures
-    (out_of_range_law w c.args.key (out_by_keys w c.numbers_of-n.result c.numbers_of-n.ensures c.numbers_wrong.ensures c.places_wrong.ensures c.if-numbers_wrong-places_wrong.false c.keys_allowed.ensures c.if-not-keys_allowed.true))
+    (out_of_range_law w c.args.key (by_keys w c.numbers_wrong.ensures c.places_wrong.ensures c.if-numbers_wrong-places_wrong.false c.keys_allowed.ensures c.if-not-keys_allowed.true))
 
 pub slice_bounds-letters_allowed-end : goal.slice_bounds-letters_allowed-end
 slice_bounds-letters_allowed-end c =
     let bs = c.args.lent.now in
     let w = c.read-reading.result.word in
     let long = ap (λ (l : List ℕ). length l) c.letters_of-letters.ensures ∙ (read_whole bs).letters in
-    omega (arith, long, (at_most w c.numbers_of-n.result c.numbers_of-n.ensures c.numbers_wrong.ensures c.places_wrong.ensures c.if-numbers_wrong-places_wrong.false).1)
+    sym (length-take-le w.count c.letters_of-letters.result (omega (arith, long, (few w c.numbers_wrong.ensures c.places_wrong.ensures c.if-numbers_wrong-places_wrong.false).1)))
 
 pub returns-then-not-letters_allowed : goal.returns-then-not-letters_allowed
 returns-then-not-letters_allowed c =
@@ -55,7 +56,7 @@ returns-then-not-letters_allowed c =
     let own : c.letters_of-letters.result ≡ w.letters = c.letters_of-letters.ensures ∙ sym (ap (λ (x : RecordRead). x.word.letters) c.read-reading.ensures) in
     refuses bs c.args.key c.read-reading.result c.read-reading.ensures (not-false _ c.if-not-reading.false) 8 0 c.refused-then-not-letters_allowed.ensures
     (out_of_range_law w c.args.key
-    (out_by_letters w c.numbers_of-n.result c.numbers_of-n.ensures c.numbers_wrong.ensures c.places_wrong.ensures c.if-numbers_wrong-places_wrong.false c.keys_allowed.ensures c.if-not-keys_allowed.false own c.letters_allowed.ensures ∙ ap not c.if-not-letters_allowed.true))
+    (by_letters w c.numbers_wrong.ensures c.places_wrong.ensures c.if-numbers_wrong-places_wrong.false c.keys_allowed.ensures c.if-not-keys_allowed.false own c.letters_allowed.ensures ∙ ap not c.if-not-letters_allowed.true))
 
 pub returns-then-at-is_key : goal.returns-then-at-is_key
 returns-then-at-is_key c =
@@ -63,10 +64,9 @@ returns-then-at-is_key c =
     let w = c.read-reading.result.word in
     let own : c.letters_of-letters.result ≡ w.letters = c.letters_of-letters.ensures ∙ sym (ap (λ (x : RecordRead). x.word.letters) c.read-reading.ensures) in
     let range : out_of_range w ≡ false =
-    out_by_letters w c.numbers_of-n.result c.numbers_of-n.ensures c.numbers_wrong.ensures c.places_wrong.ensures c.if-numbers_wrong-places_wrong.false c.keys_allowed.ensures c.if-not-keys_allowed.false own
+    by_letters w c.numbers_wrong.ensures c.places_wrong.ensures c.if-numbers_wrong-places_wrong.false c.keys_allowed.ensures c.if-not-keys_allowed.false own
     c.letters_allowed.ensures ∙ ap not c.if-not-letters_allowed.false in
-    let typed_of = ap (λ (n : Numbers). n.typed) c.numbers_of-n.ensures in
-    takes_none bs c.args.key c.read-reading.result c.read-reading.ensures (not-false _ c.if-not-reading.false) range typed_of c.is_key.ensures c.if-at-is_key.true c.not_taken.ensures
+    takes_none bs c.args.key c.read-reading.result c.read-reading.ensures (not-false _ c.if-not-reading.false) range c.is_key.ensures c.if-at-is_key.true c.not_taken.ensures
 
 pub typed-outcome-requires : goal.typed-outcome-requires
 typed-outcome-requires c =
@@ -74,11 +74,11 @@ typed-outcome-requires c =
     let w = c.read-reading.result.word in
     let own : c.letters_of-letters.result ≡ w.letters = c.letters_of-letters.ensures ∙ sym (ap (λ (x : RecordRead). x.word.letters) c.read-reading.ensures) in
     let range : out_of_range w ≡ false =
-    out_by_letters w c.numbers_of-n.result c.numbers_of-n.ensures c.numbers_wrong.ensures c.places_wrong.ensures c.if-numbers_wrong-places_wrong.false c.keys_allowed.ensures c.if-not-keys_allowed.false own
+    by_letters w c.numbers_wrong.ensures c.places_wrong.ensures c.if-numbers_wrong-places_wrong.false c.keys_allowed.ensures c.if-not-keys_allowed.false own
     c.letters_allowed.ensures ∙ ap not c.if-not-letters_allowed.false in
     let typed_of = ap (λ (n : Numbers). n.typed) c.numbers_of-n.ensures in
-    let t = takes_it bs c.args.key c.read-reading.result c.read-reading.ensures (not-false _ c.if-not-reading.false) range typed_of c.is_key.ensures c.if-at-is_key.false in
-    ready_at bs c.args.key c.read-reading.result c.read-reading.ensures (not-false _ c.if-not-reading.false) c.numbers_of-n.result c.numbers_of-n.ensures c.letters_of-letters.ensures range t.0 t.1
+    let t = takes_it bs c.args.key c.read-reading.result c.read-reading.ensures (not-false _ c.if-not-reading.false) range c.is_key.ensures c.if-at-is_key.false in
+    ready_at bs c.args.key c.read-reading.result c.read-reading.ensures (not-false _ c.if-not-reading.false) c.numbers_of-n.result c.numbers_of-n.ensures c.letters_of-letters.ensures range (omega (arith, t.0, typed_of)) t.1
 
 pub returns : goal.returns
 returns c =

@@ -179,21 +179,7 @@ pub fn fz_show(lent: &[u8], out: &mut [u8], value: &mut usize) -> u8
     if !reading.is_record {
         return no_record(value);
     }
-    let w = reading.word;
-    let letters = w.letters;
-    let appended_by = w.appended_by;
-    let shaped_by = w.shaped_by;
-    let keys = w.keys;
-    match show::show_in(
-        &letters,
-        &appended_by,
-        &shaped_by,
-        &keys,
-        w.toned_by,
-        w.mode,
-        records::numbers_of(w),
-        out,
-    ) {
+    match show::show_in(&reading.word, out) {
         WriteAnswer::Wrote(bytes) => answered(bytes, value),
         WriteAnswer::Refused(refusal) => refused(refusal, value),
     }

@@ -81,8 +81,11 @@ module _ (w : Word) (out : List ℕ) {r : Bool} (asked : r ≡ out_of_range w) w
     pub few : w.count ≤ most_keys
     few = few_letters w in_range
 
-    pub shown_so : text_out (take (w.count - 0) w.letters) w.tone out ≡ show w out
-    shown_so =
-        let m : w.count - 0 ≡ w.count = omega arith in
+    pub shown_word : text_out (take w.count w.letters) w.tone out ≡ show w out
+    shown_word =
         let short : length (take w.count w.letters) ≤ most_keys = simp length-take (omega (arith, few)) in
-        ap (λ (n : ℕ). text_out (take n w.letters) w.tone out) m ∙ few_enough (take w.count w.letters) w.tone out short ∙ ap (λ (l : List ℕ). put l out) (text_of_law w in_range) ∙ sym put_in
+        few_enough (take w.count w.letters) w.tone out short ∙ ap (λ (l : List ℕ). put l out) (text_of_law w in_range) ∙ sym put_in
+
+    -- the same of letters that are taken from the first on
+    pub shown_so : text_out (take (w.count - 0) w.letters) w.tone out ≡ show w out
+    shown_so = let m : w.count - 0 ≡ w.count = omega arith in ap (λ (n : ℕ). text_out (take n w.letters) w.tone out) m ∙ shown_word

@@ -7,10 +7,8 @@ ghost use Rattle.rules.specs.TheWord.{letter, at_front};
 ghost use Rattle.rules.specs.WhatComesBack.{show as show_of};
 ghost use Rattle.rules.specs.TonePlace.{tone_place};
 ghost use Rattle.letters.specs.Writing.{bytes_if, letter_bytes};
-ghost use Rattle.records.specs.Numbers.{word_in};
 ghost use Rattle.show.specs.Filling.{tone_if, toned_at, text_from, room_text, text_out};
 
-use records::Numbers;
 use rules::{NO_TONE, Place, Refusal, Word, WriteAnswer};
 
 // The UTF-8 bytes of a code point from a place of the text on; the place after them. No code point (0) shows nothing.
@@ -80,10 +78,8 @@ fn fill(text: &mut [u8], letters: &[u16], toned: usize, tone: u8) -> usize
     ensures { (result ≡ length (text_from (Place.At toned) tone 0 letters.now)) × (text.new ≡ at_front (text_from (Place.At toned) tone 0 letters.now) text.old) }
 {
     let mut at = 0;
-    let mut i = 0;
-    while i < letters.len() {
-        at = put_letter(text, at, letters[i], i == toned, tone);
-        i += 1;
+    for (i, &letter) in letters.iter().enumerate() {
+        at = put_letter(text, at, letter, i == toned, tone);
     }
     at
 }
@@ -122,46 +118,22 @@ pub fn text(letters: &[u16], tone: u8, out: &mut [u8]) -> WriteAnswer
     output::write(&made[0..needed], out)
 }
 
-// The text of a word whose arrays are lent, at the front of the output. Refusals: 8, then 4 with the bytes needed; the output is then as it was.
-pub fn show_in(
-    letters: &[u16; Word::KEYS],
-    appended_by: &[u8; Word::KEYS],
-    shaped_by: &[u8; Word::KEYS],
-    keys: &[u8; Word::KEYS],
-    toned_by: u8,
-    mode: u8,
-    n: Numbers,
-    out: &mut [u8],
-) -> WriteAnswer
-    ensures { (result ≡ (show_of (word_in mode letters.now appended_by.now shaped_by.now keys.now toned_by n) out.old).answer) × (out.new ≡ (show_of (word_in mode letters.now appended_by.now shaped_by.now keys.now toned_by n) out.old).output) }
+// The text of a word that is lent, at the front of the output. Refusals: 8, then 4 with the bytes needed; the output is then as it was.
+pub fn show_in(w: &Word, out: &mut [u8]) -> WriteAnswer
+    ensures { (result ≡ (show_of w.now out.old).answer) × (out.new ≡ (show_of w.now out.old).output) }
 {
-    if records::lent_out_of_range(letters, appended_by, shaped_by, keys, toned_by, mode, n) {
+    if records::lent_out_of_range(w) {
         return WriteAnswer::Refused(Refusal {
             number: 8,
             value: 0,
         });
     }
-    let count = n.count as usize;
-    let held = &letters[..];
-    text(&held[0..count], n.tone, out)
+    text(&w.letters[..w.count as usize], w.tone, out)
 }
 
-// The same of a record. Its arrays are lent.
+// The same of a record.
 pub fn show(w: Word, out: &mut [u8]) -> WriteAnswer
     ensures { (result ≡ (show_of w out.old).answer) × (out.new ≡ (show_of w out.old).output) }
 {
-    let letters = w.letters;
-    let appended_by = w.appended_by;
-    let shaped_by = w.shaped_by;
-    let keys = w.keys;
-    show_in(
-        &letters,
-        &appended_by,
-        &shaped_by,
-        &keys,
-        w.toned_by,
-        w.mode,
-        records::numbers_of(w),
-        out,
-    )
+    show_in(&w, out)
 }

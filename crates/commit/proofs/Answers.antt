@@ -1,34 +1,33 @@
 -- The ruling by its tests, in the order in which the code asks them, and what the code makes of a word in range.
 use mathlib.Core.Path.{◌≡◌, refl, sym, ap, subst, ◌∙◌}
 use mathlib.Core.Bool.{Bool, true, false, not, ◌&&◌}
-use mathlib.Core.List.{List, map}
+use mathlib.Core.List.{List, [], ◌∷◌, map}
 use Prim.Native.Nat.{ℕ, ◌+◌, ◌-◌, ◌≤◌, ◌<◌}
 use native.Mathlib.Omega.{arith}
 use borrow.Author.Tests.{lt-ltb, le-ltb}
+use lib.Pointwise.{pointwise}
 use lib.Dec.{T, eqb}
 use lib.ListN.{length, take, length-take}
 use Rattle.rules.specs.TakingApart.{verdict}
 use Rattle.rules.specs.TheWord.{Typed, most_keys, most_bytes, letter, word_of, at_front}
 use Rattle.rules.specs.KeyRoles.{is_key}
 use Rattle.rules.specs.CodePoints.{shown}
-use Rattle.rules.specs.Decision.{decision}
+use Rattle.rules.specs.Decision.{keeps, decision}
 use Rattle.rules.specs.Refusals.{all, is_mode, same_bytes, allowed_before, out_of_range, refusal}
-use Rattle.rules.specs.WhatComesBack.{typed, type_all, Written, show, decision_answer}
+use Rattle.rules.specs.WhatComesBack.{typed, type_all, Written, show}
 use Rattle.rules.specs.declared.Word.{Word}
 use Rattle.rules.specs.declared.Refusal.{Refusal}
 use Rattle.rules.specs.declared.TypeAnswer.TheVariants.{AllTyped}
 use Rattle.rules.specs.declared.TypeAnswer.TheVariants.{Refused as TypeRefused}
 use Rattle.rules.specs.declared.WriteAnswer.TheVariants.{Wrote}
-use Rattle.rules.specs.declared.DecisionAnswer.TheVariants.{Decided}
 use Rattle.rules.specs.declared.Decision.{Decision}
 use Rattle.rules.specs.declared.Decision.TheVariants.{Keep as Kept, Restore as Restored}
-use Rattle.rules.proofs.NotRefused.{so_long, its_front, its_decision, typed_word}
+use Rattle.rules.proofs.NotRefused.{so_long, its_front, typed_word}
 use Rattle.rules.proofs.Commits.{same_bytes_law}
 use Rattle.rules.proofs.Range.{few_letters}
 use Rattle.show.specs.Filling.{room_text}
-use Rattle.show.proofs.Answers.{made_there, shown_so}
+use Rattle.show.proofs.Answers.{made_there, shown_word}
 use Rattle.word.specs.Deciding.{decided_by}
-use Rattle.word.proofs.Answers.{decided as word_decided}
 use Rattle.commit.specs.declared.Ruling.{Ruling}
 use Rattle.commit.specs.declared.Ruling.TheVariants.{Keep, Restore, Refused}
 use Rattle.commit.specs.Rulings.{decided, judged_if, judged, ruling_of}
@@ -36,36 +35,50 @@ use Rattle.commit.specs.Rulings.{decided, judged_if, judged, ruling_of}
 abbrev refused_as : ℕ → ℕ → Ruling
 refused_as n v = Refused (record { number = n; value = v })
 
+-- the library's comparison is the table's
+is_same : (bs cs : List ℕ) → pointwise eqb bs cs ≡ same_bytes bs cs
+is_same [] [] = refl
+is_same [] (c ∷ cs) = refl
+is_same (b ∷ bs) [] = refl
+is_same (b ∷ bs) (c ∷ cs) = ap (◌&&◌ (eqb b c)) (is_same bs cs)
+
+not_not : (b : Bool) → not (not b) ≡ b
+not_not true = refl
+not_not false = refl
+
 module _ (w : Word) where
   abbrev its_text : List ℕ
   its_text = shown (word_of w).state
 
-  -- a word in range: its letters, as they are lent, make its text and its decision
-  module _ (range : out_of_range w ≡ false) where
-    abbrev lent : List ℕ
-    lent = take (w.count - 0) w.letters
+  abbrev lent : List ℕ
+  lent = take w.count w.letters
 
+  -- what the code makes of the letters, as they are lent: the decision, and of a word in range the text
+  abbrev decide : ℕ → Decision
+  decide = decided_by (eqb w.acted 0 && eqb w.undone 0) w.closed (map letter lent)
+
+  pub decides : (v : ℕ) (d : Decision) → v ≡ verdict (map letter lent) w.tone → d ≡ decide v → d ≡ decision (word_of w)
+  unfolding keeps
+  decides v d e f = f ∙ ap decide e
+
+  module _ (range : out_of_range w ≡ false) where
     module _ (n : ℕ) (old buffer : List ℕ) (room : most_bytes ≤ length old) (many : n ≡ length (room_text lent w.tone old)) (made : buffer ≡ at_front (room_text lent w.tone old) old) where
       shows : record { answer = Wrote n; output = buffer } ≡ show w old
       shows =
           let few : length lent ≤ most_keys = simp length-take (omega (arith, few_letters w range)) in
-          sym (made_there lent w.tone old few n room many buffer made) ∙ shown_so w old refl range
+          sym (made_there lent w.tone old few n room many buffer made) ∙ shown_word w old refl range
 
       pub text_long : n ≡ length its_text
       text_long = so_long w range old room (Wrote n) (ap (λ (x : Written). x.answer) shows) n refl
 
-      pub text_made : take (n - 0) buffer ≡ its_text
-      text_made = its_front w range old room (Wrote n) (ap (λ (x : Written). x.answer) shows) n refl buffer (ap (λ (x : Written). x.output) shows)
+      text_made : take n buffer ≡ its_text
+      text_made =
+          let m : n ≡ n - 0 = omega arith in
+          ap (λ (k : ℕ). take k buffer) m ∙ its_front w range old room (Wrote n) (ap (λ (x : Written). x.answer) shows) n refl buffer (ap (λ (x : Written). x.output) shows)
 
       -- a text that is compared with what is made is compared with the word's
-      pub compared : (text : List ℕ) {answer : Bool} → answer ≡ same_bytes text (take (n - 0) buffer) → same_bytes text its_text ≡ answer
-      compared text e = ap (same_bytes text) (sym text_made) ∙ sym e
-
-    abbrev decide : ℕ → Decision
-    decide = decided_by (eqb w.acted 0 && eqb w.undone 0) w.closed (map letter lent)
-
-    pub decides : (v : ℕ) (d : Decision) → v ≡ verdict (map letter lent) w.tone → d ≡ decide v → d ≡ decision (word_of w)
-    decides v d e f = its_decision w range (decision_answer w) refl d (word_decided w range ∙ sym (ap Decided (f ∙ ap decide e)))
+      pub compared : (text : List ℕ) {other : Bool} → other ≡ not (pointwise eqb text (take n buffer)) → same_bytes text its_text ≡ not other
+      compared text e = sym (not_not (same_bytes text its_text)) ∙ ap not (sym (e ∙ ap not (is_same text (take n buffer) ∙ ap (same_bytes text) text_made)))
 
   -- the ruling on a text for it
   module _ (text : List ℕ) where

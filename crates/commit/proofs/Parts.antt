@@ -1,8 +1,8 @@
 -- What each ruling hands back, and what it answers.
-use mathlib.Core.Path.{◌≡◌, refl, sym, subst, ◌∙◌}
+use mathlib.Core.Path.{◌≡◌, refl, sym, ap, subst, ◌∙◌}
 use mathlib.Core.List.{List, []}
 use mathlib.Core.Option.{Option, none, some}
-use Prim.Native.Nat.{ℕ, ◌-◌, ◌≤◌}
+use Prim.Native.Nat.{ℕ}
 use native.Mathlib.Omega.{arith}
 use lib.ListN.{length, take}
 use lib.Seq.{take_all}
@@ -41,10 +41,11 @@ module _ (m : ℕ) (ks text : List ℕ) where
   of_kept : {n : ℕ} {part : List ℕ} {a : CommitAnswer} → Goes ks text (Keep n) part a → (n ≡ length text) × (part ≡ text) × (a ≡ Granted)
   of_kept keeps = (refl, refl, refl)
 
-  pub kept_part : (n : ℕ) → ruling_of m ks text ≡ Keep n → (n ≤ length text) × (take (n - 0) text ≡ commit m ks text) × (Granted ≡ commit_answer m ks text)
+  pub kept_part : (n : ℕ) → ruling_of m ks text ≡ Keep n → (n ≡ length (take n text)) × (take n text ≡ commit m ks text) × (Granted ≡ commit_answer m ks text)
   kept_part n e =
       let (l, p, a) = of_kept (subst (λ (r : Ruling). Goes ks text r (commit m ks text) (commit_answer m ks text)) e goes) in
-      (omega arith, take_all (n - 0) text (omega arith) ∙ sym p, sym a)
+      let whole = take_all n text (omega arith) in
+      (l ∙ ap (λ (bs : List ℕ). length bs) (sym whole), whole ∙ sym p, sym a)
 
   of_restored : {part : List ℕ} {a : CommitAnswer} → Goes ks text Restore part a → (part ≡ ks) × (a ≡ Granted)
   of_restored restores = (refl, refl)

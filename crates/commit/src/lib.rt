@@ -3,7 +3,7 @@
 
 ghost use Rattle.std.specs.Prelude.{◌≡◌, false};
 ghost use Rattle.rules.specs.TheWord.{word_of};
-ghost use Rattle.rules.specs.Refusals.{same_bytes, out_of_range};
+ghost use Rattle.rules.specs.Refusals.{out_of_range};
 ghost use Rattle.rules.specs.WhatComesBack.{commit as commit_of, commit_answer};
 ghost use Rattle.commit.specs.Rulings.{judged, ruling_of, handed_from};
 
@@ -26,36 +26,16 @@ fn refused(number: u8, value: usize) -> Ruling
     })
 }
 
-// Exactly the same bytes.
-fn same(text: &[u8], shown: &[u8]) -> bool
-    ensures { result ≡ same_bytes text.now shown.now }
-{
-    let n = shown.len();
-    if text.len() != n {
-        return false;
-    }
-    let mut i = 0;
-    while i < n {
-        if text[i] != shown[i] {
-            return false;
-        }
-        i += 1;
-    }
-    true
-}
-
 // The lent text is exactly what the word shows: the decision on the word; else refusal 5.
-// The word is in range: its letters are taken out of the record once, and not asked about again.
-fn judge(w: Word, text: &[u8]) -> Ruling
-    requires { out_of_range w ≡ false }
-    ensures { result ≡ judged (word_of w) text.now }
+// The word is in range, and is not asked about again.
+fn judge(w: &Word, text: &[u8]) -> Ruling
+    requires { out_of_range w.now ≡ false }
+    ensures { result ≡ judged (word_of w.now) text.now }
 {
-    let all = w.letters;
-    let count = w.count as usize;
-    let letters = &all[0..count];
+    let letters = &w.letters[..w.count as usize];
     let mut shown = [0; Word::TEXT];
     let n = show::in_room(letters, w.tone, &mut shown);
-    if !same(text, &shown[0..n]) {
+    if text != &shown[..n] {
         return refused(5, 0);
     }
     let untouched = (w.acted == 0) & (w.undone == 0);
@@ -85,7 +65,7 @@ pub fn rule(mode: u8, keys: &[u8], text: &[u8]) -> Ruling
     if let TypeAnswer::Refused(refusal) = answer {
         return Ruling::Refused(refusal);
     }
-    judge(all.word, text)
+    judge(&all.word, text)
 }
 
 // The front part of the text or the keys, according to the decision; an empty part of the keys where it is refused.
@@ -93,9 +73,9 @@ pub fn commit<'a>(mode: u8, keys: &'a [u8], text: &'a [u8]) -> &'a [u8]
     ensures { (result.now ≡ commit_of mode keys.now text.now) × (result.ref_ptr ≡ handed_from (ruling_of mode keys.now text.now) keys.entry.ref_ptr text.entry.ref_ptr) }
 {
     match rule(mode, keys, text) {
-        Ruling::Keep(n) => &text[0..n],
+        Ruling::Keep(n) => &text[..n],
         Ruling::Restore => keys,
-        Ruling::Refused(_) => &keys[0..0],
+        Ruling::Refused(_) => &keys[..0],
     }
 }
 

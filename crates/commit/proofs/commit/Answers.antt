@@ -1,6 +1,5 @@
 -- `commit::commit` meets its contract: the part that the ruling names.
 use mathlib.Core.Path.{sym, ap, ◌∙◌}
-use native.Mathlib.Nat.{zero-add}
 use Rattle.commit.proofs.Parts.{kept_part, restored_part, refused_part}
 use Rattle.commit.specs.Rulings.{handed_from}
 use Rattle.commit.specs.declared.Ruling.{Ruling}
@@ -15,7 +14,7 @@ pub returns-in-Keep : goal.returns-in-Keep
 returns-in-Keep c =
     let args = c.args in
     let e = sym c.rule.ensures ∙ c.in-Keep.is in
-    ((kept_part args.mode args.keys.now args.text.now _ e).1, (λ i. (args.text.ref_ptr.0, zero-add args.text.ref_ptr.1 i)) ∙ sym (ap (λ (r : Ruling). handed_from r args.keys.ref_ptr args.text.ref_ptr) e))
+    ((kept_part args.mode args.keys.now args.text.now _ e).1, sym (ap (λ (r : Ruling). handed_from r args.keys.ref_ptr args.text.ref_ptr) e))
 
 pub returns-in-Restore : goal.returns-in-Restore
 returns-in-Restore c =
@@ -27,4 +26,4 @@ pub returns-in-Refused : goal.returns-in-Refused
 returns-in-Refused c =
     let args = c.args in
     let e = sym c.rule.ensures ∙ c.in-Refused.is in
-    ((refused_part args.mode args.keys.now args.text.now _ e).0, (λ i. (args.keys.ref_ptr.0, zero-add args.keys.ref_ptr.1 i)) ∙ sym (ap (λ (r : Ruling). handed_from r args.keys.ref_ptr args.text.ref_ptr) e))
+    ((refused_part args.mode args.keys.now args.text.now _ e).0, sym (ap (λ (r : Ruling). handed_from r args.keys.ref_ptr args.text.ref_ptr) e))

@@ -59,10 +59,9 @@ module _ (ns : List ℕ) (t : ℕ) (out : List ℕ) where
 
 -- else it is made in a buffer, and its front put
 pub put_so : (ns : List ℕ) (t : ℕ) (out old buffer : List ℕ) (n : ℕ) → length ns ≤ most_keys → most_bytes ≤ length old → n ≡ length (room_text ns t old) → buffer ≡ at_front (room_text ns t old) old
-    → put (take (n - 0) buffer) out ≡ text_out ns t out
+    → put (take n buffer) out ≡ text_out ns t out
 put_so ns t out old buffer n few room many b =
-    let m : length (room_text ns t old) ≡ n - 0 = omega arith in
-    ap (λ (l : List ℕ). put l out) (ap (take (n - 0)) b ∙ read_front (room_text ns t old) old (n - 0) m ∙ sym (in_room ns t old few room)) ∙ sym (few_enough ns t out few)
+    ap (λ (l : List ℕ). put l out) (ap (take n) b ∙ read_front (room_text ns t old) old n (sym many) ∙ sym (in_room ns t old few room)) ∙ sym (few_enough ns t out few)
 
 -- of a word, by what is answered on its range
 module _ (w : Word) (out : List ℕ) {r : Bool} (asked : r ≡ out_of_range w) where

@@ -115,7 +115,7 @@ pub fn text(letters: &[u16], tone: u8, out: &mut [u8]) -> WriteAnswer
     }
     let mut made = [0; Word::TEXT];
     let needed = in_room(letters, tone, &mut made);
-    output::write(&made[0..needed], out)
+    output::write(&made[..needed], out)
 }
 
 // The text of a word that is lent, at the front of the output. Refusals: 8, then 4 with the bytes needed; the output is then as it was.

@@ -57,9 +57,9 @@ module _ (w : Word) where
   abbrev decide : ℕ → Decision
   decide = decided_by (eqb w.acted 0 && eqb w.undone 0) w.closed (map letter lent)
 
-  pub decides : (v : ℕ) (d : Decision) → v ≡ verdict (map letter lent) w.tone → d ≡ decide v → d ≡ decision (word_of w)
+  pub decides_so : (v : ℕ) (d : Decision) → v ≡ verdict (map letter lent) w.tone → d ≡ decide v → d ≡ decision (word_of w)
   unfolding keeps
-  decides v d e f = f ∙ ap decide e
+  decides_so v d e f = f ∙ ap decide e
 
   module _ (range : out_of_range w ≡ false) where
     module _ (n : ℕ) (old buffer : List ℕ) (room : most_bytes ≤ length old) (many : n ≡ length (room_text lent w.tone old)) (made : buffer ≡ at_front (room_text lent w.tone old) old) where
@@ -68,17 +68,34 @@ module _ (w : Word) where
           let few : length lent ≤ most_keys = simp length-take (omega (arith, few_letters w range)) in
           sym (made_there lent w.tone old few n room many buffer made) ∙ shown_word w old refl range
 
+      text_front : take (n - 0) buffer ≡ its_text
+      text_front = its_front w range old room (Wrote n) (ap (λ (x : Written). x.answer) shows) n refl buffer (ap (λ (x : Written). x.output) shows)
+
       pub text_long : n ≡ length its_text
       text_long = so_long w range old room (Wrote n) (ap (λ (x : Written). x.answer) shows) n refl
 
-      text_made : take n buffer ≡ its_text
-      text_made =
-          let m : n ≡ n - 0 = omega arith in
-          ap (λ (k : ℕ). take k buffer) m ∙ its_front w range old room (Wrote n) (ap (λ (x : Written). x.answer) shows) n refl buffer (ap (λ (x : Written). x.output) shows)
+      front_made : take n buffer ≡ its_text
+      front_made = let m : n ≡ n - 0 = omega arith in ap (λ (k : ℕ). take k buffer) m ∙ text_front
 
       -- a text that is compared with what is made is compared with the word's
       pub compared : (text : List ℕ) {other : Bool} → other ≡ not (pointwise eqb text (take n buffer)) → same_bytes text its_text ≡ not other
-      compared text e = sym (not_not (same_bytes text its_text)) ∙ ap not (sym (e ∙ ap not (is_same text (take n buffer) ∙ ap (same_bytes text) text_made)))
+      compared text e = sym (not_not (same_bytes text its_text)) ∙ ap not (sym (e ∙ ap not (is_same text (take n buffer) ∙ ap (same_bytes text) front_made)))
+
+    -- the same of parts that are taken from place 0 on
+    abbrev from_0 : List ℕ
+    from_0 = take (w.count - 0) w.letters
+
+    is_lent : from_0 ≡ lent
+    is_lent = let m : w.count - 0 ≡ w.count = omega arith in ap (λ (k : ℕ). take k w.letters) m
+
+    pub decides : (v : ℕ) (d : Decision) → v ≡ verdict (map letter from_0) w.tone → d ≡ decided_by (eqb w.acted 0 && eqb w.undone 0) w.closed (map letter from_0) v → d ≡ decision (word_of w)
+    decides v d e f =
+        decides_so v d (e ∙ ap (λ (l : List ℕ). verdict (map letter l) w.tone) is_lent)
+        (f ∙ ap (λ (l : List ℕ). decided_by (eqb w.acted 0 && eqb w.undone 0) w.closed (map letter l) v) is_lent)
+
+    pub text_made : (n : ℕ) (old buffer : List ℕ) → most_bytes ≤ length old → n ≡ length (room_text from_0 w.tone old) → buffer ≡ at_front (room_text from_0 w.tone old) old → take (n - 0) buffer ≡ its_text
+    text_made n old buffer room many made =
+        text_front n old buffer room (many ∙ ap (λ (l : List ℕ). length (room_text l w.tone old)) is_lent) (made ∙ ap (λ (l : List ℕ). at_front (room_text l w.tone old) old) is_lent)
 
   -- the ruling on a text for it
   module _ (text : List ℕ) where

@@ -5,7 +5,7 @@ use lib.Dec.{lit≤}
 use Rattle.rules.specs.TheWord.{word_of}
 use Rattle.rules.specs.Decision.{decision}
 use Rattle.rules.proofs.Range.{few_letters}
-use Rattle.commit.proofs.Answers.{text_long, compared, decides, other_text, kept, restored}
+use Rattle.commit.proofs.Answers.{text_long, compared, decides_so, other_text, kept, restored}
 use Rattle.commit.proofs.judge.Goals as goal
 
 pub shared_ref_as_front-letters : goal.shared_ref_as_front-letters
@@ -22,12 +22,12 @@ returns-in-Keep c =
     let w = c.args.w.now in
     let same = compared w c.requires c.in_room-n.result _ _ (lit≤ tt) c.in_room-n.ensures.0 c.in_room-n.ensures.1 c.args.text.now c.ne.ensures in
     let long = text_long w c.requires c.in_room-n.result _ _ (lit≤ tt) c.in_room-n.ensures.0 c.in_room-n.ensures.1 in
-    let by_word : c.decided-decision.result ≡ decision (word_of w) = decides w _ _ c.verdict-verdict.ensures c.decided-decision.ensures in
+    let by_word : c.decided-decision.result ≡ decision (word_of w) = decides_so w _ _ c.verdict-verdict.ensures c.decided-decision.ensures in
     kept w c.args.text.now c.in_room-n.result (same ∙ ap not c.if-ne.false) long (sym by_word ∙ c.in-Keep.is)
 
 pub returns : goal.returns
 returns c =
     let w = c.args.w.now in
     let same = compared w c.requires c.in_room-n.result _ _ (lit≤ tt) c.in_room-n.ensures.0 c.in_room-n.ensures.1 c.args.text.now c.ne.ensures in
-    let by_word : c.decided-decision.result ≡ decision (word_of w) = decides w _ _ c.verdict-verdict.ensures c.decided-decision.ensures in
+    let by_word : c.decided-decision.result ≡ decision (word_of w) = decides_so w _ _ c.verdict-verdict.ensures c.decided-decision.ensures in
     restored w c.args.text.now (same ∙ ap not c.if-ne.false) (sym by_word ∙ c.in_default.is)

@@ -1,4 +1,5 @@
 pub mod Runs
+pub mod Ranges
 pub mod Glides
 pub mod Splits
 pub mod Places

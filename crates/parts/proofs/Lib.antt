@@ -1,5 +1,4 @@
 pub mod Runs
-pub mod Ranges
 pub mod Glides
 pub mod Splits
 pub mod Places

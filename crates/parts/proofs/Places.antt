@@ -18,7 +18,7 @@ use Rattle.parts.specs.Ends.{parts_of}
 use Rattle.parts.specs.declared.Parts.{Parts}
 use Rattle.rules.proofs.Bools.{pick}
 use Rattle.rules.proofs.Wholes.{whole}
-use Rattle.parts.proofs.Ranges.{IsLastPlace}
+use Rattle.rules.proofs.Searches.{IsLastPlace}
 use Rattle.parts.proofs.Splits.{nil_length, cut}
 
 -- a letter with a shape

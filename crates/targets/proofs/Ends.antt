@@ -29,15 +29,12 @@ module _ (s : List ℕ) (some : 0 < length s) where
       map-append letter before (end ∷ [])
 
   abbrev front : Letters
-  front = map letter (take (length s - 1 - 0) (drop 0 s))
-
-  front_is : map letter before ≡ front
-  front_is = let e : length s - 1 ≡ length s - 1 - 0 = omega arith in ap (λ (k : ℕ). map letter (take k s)) e
+  front = map letter before
 
   -- words that end in one letter
   module _ (y : Letter) (zs : List Letters) where
     by_end : one_of (map letter s) (ended_by y zs) ≡ (is (letter end) y && one_of front zs)
-    by_end = ap (λ (w : Letters). one_of w (ended_by y zs)) split ∙ one_ended (map letter before) (letter end) y zs ∙ ap (λ (w : Letters). is (letter end) y && one_of w zs) front_is
+    by_end = ap (λ (w : Letters). one_of w (ended_by y zs)) split ∙ one_ended (map letter before) (letter end) y zs
 
     pub other_end : is (letter end) y ≡ false → false ≡ one_of (map letter s) (ended_by y zs)
     other_end e = sym (by_end ∙ ap (λ (b : Bool). b && one_of front zs) e)

@@ -1,5 +1,5 @@
 -- One turn of each search for a target, and its ends.
-use mathlib.Core.Path.{◌≡◌, refl, ap}
+use mathlib.Core.Path.{◌≡◌, refl, sym, ap, ap₂}
 use mathlib.Core.Bool.{Bool, true, false}
 use mathlib.Core.List.{List, [], ◌∷◌, map}
 use Prim.Native.Nat.{ℕ, zero, suc, ◌+◌, ◌<◌, ◌≤◌}
@@ -7,30 +7,26 @@ use native.Mathlib.Numerals.{add-one}
 use native.Mathlib.Omega.{arith}
 use lib.ListN.{length, drop, get_or, length-drop, drop_of_length-le}
 use lib.Seq.{drop-cons, drop-length}
+use Rattle.std.specs.Prelude.{Option, Some, None}
 use Rattle.rules.specs.TheWord.{letter}
 use Rattle.rules.specs.KeyRoles.{is_q, is_pair, is_single}
 use Rattle.rules.specs.declared.Place.{Place}
 use Rattle.rules.specs.declared.Place.TheVariants.{At, Nowhere}
-use Rattle.targets.specs.Places.{next, or_this, last_place, pair_place, single_place}
+use Rattle.rules.proofs.Searches.{IsLastPlace}
+use Rattle.targets.specs.Places.{place_of, next, or_this, last_place, pair_place, single_place}
 
--- the search from the end: nothing is wanted from here on
+-- the search from the end, by what `rposition` finds
 module _ (want : ℕ → Bool) where
-  abbrev pub none_from : List ℕ → ℕ → Type 0
-  none_from s i = last_place want (map letter (drop i s)) ≡ Nowhere
+  abbrev pub wants_letter : ℕ → Bool
+  wants_letter n = want (letter n).base
 
-  pub none_at_end : (s : List ℕ) → none_from s (length s)
-  none_at_end s = simp drop-length
-
-  pub none_before : (s : List ℕ) (i j : ℕ) → suc i ≡ j → i < length s → want (letter (get_or s i 0)).base ≡ false → none_from s j → none_from s i
-  none_before s i j p h e n = let m : none_from s (suc i) = rw p n in rw (drop-cons s i 0 h, e, m)
-
-  found : (s : List ℕ) (i : ℕ) → i < length s → want (letter (get_or s i 0)).base ≡ true → none_from s (suc i) → last_place want (map letter s) ≡ At i
-  found [] i h e n = absurd (omega arith)
-  found (x ∷ s) zero h e n = rw (n, e)
-  found (x ∷ s) (suc i) h e n = ap (λ (p : Place). or_this p (want (letter x).base)) (found s i (omega arith) e n)
-
-  pub last_found : (s : List ℕ) (i j : ℕ) → suc i ≡ j → i < length s → want (letter (get_or s i 0)).base ≡ true → none_from s j → last_place want (map letter s) ≡ At i
-  last_found s i j p h e n = found s i h e (rw p n)
+  pub last_found : (s : List ℕ) (r : Option ℕ) → IsLastPlace wants_letter s r → place_of r ≡ last_place want (map letter s)
+  last_found [] (Some i) h = absurd (omega (arith, h.0))
+  last_found [] None h = refl
+  last_found (x ∷ xs) None h = ap₂ or_this (last_found xs None (λ k l. h (suc k) (omega arith))) (sym (h 0 (omega arith)))
+  last_found (x ∷ xs) (Some zero) h = ap₂ or_this (last_found xs None (λ k l. h.2 (suc k) (omega arith) (omega arith))) (sym h.1)
+  last_found (x ∷ xs) (Some (suc i)) h =
+      ap (λ (p : Place). or_this p (wants_letter x)) (last_found xs (Some i) (omega (arith, h.0), h.1, λ k m l. h.2 (suc k) (omega arith) (omega arith)))
 
 -- the searches from the front: what is found from here on, counted from the start
 abbrev pub from : ℕ → Place → Place

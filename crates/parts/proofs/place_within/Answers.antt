@@ -1,7 +1,7 @@
 -- `parts::place_within` meets its contract: a single letter, the last shaped letter, or the place by the count.
 use Rattle.std.proofs.Common.{rules, arith, ◌∙◌}
 use Rattle.std.proofs.iter.runs.Made.{chains}
-use Rattle.parts.proofs.Ranges.{IsLastPlace}
+use Rattle.rules.proofs.Searches.{IsLastPlace}
 use Rattle.parts.proofs.Places.{is_shaped, single, several, no_further}
 use Rattle.parts.proofs.place_within.Goals as goal
 

@@ -1,7 +1,7 @@
 -- `parts::run` meets its contract: it stops at the first letter of another kind.
 use Rattle.std.proofs.Common.{rules, sym, ◌∙◌}
 use Rattle.std.proofs.iter.runs.Made.{chains}
-use Rattle.parts.proofs.Ranges.{IsFirstPlace, first_or_length}
+use Rattle.rules.proofs.Searches.{IsFirstPlace, first_or_length}
 use Rattle.parts.proofs.Runs.{other, run_length}
 use Rattle.parts.proofs.run.Goals as goal
 

@@ -12,5 +12,3 @@ use Rattle.targets.proofs.single.Given as goal
 abbrev pub invariant-loop-i : goal.invariant-loop-i
 invariant-loop-i l = from l.i (single_place l.after_q (map letter (drop l.i l.letters))) ≡ single_place false (map letter l.letters)
 
-abbrev pub decreases-loop-i : goal.decreases-loop-i
-decreases-loop-i l = length l.letters - l.i

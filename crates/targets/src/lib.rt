@@ -77,13 +77,11 @@ pub fn pair(letters: &[u16]) -> Place
     ensures { result ≡ pair_place false (map letter letters.now) }
 {
     let mut after_q = false;
-    let mut i = 0;
-    while i + 1 < letters.len() {
-        if is_pair(after_q, letters[i], letters[i + 1]) {
+    for (i, [first, second]) in letters.array_windows::<2>().enumerate() {
+        if is_pair(after_q, *first, *second) {
             return Place::At(i);
         }
-        after_q = is_q(letters[i]);
-        i += 1;
+        after_q = is_q(*first);
     }
     Place::Nowhere
 }

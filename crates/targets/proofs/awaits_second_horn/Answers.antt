@@ -1,5 +1,5 @@
 -- `targets::awaits_second_horn` meets its contract: by the last letter, and by those before it.
-use Rattle.std.proofs.Common.{arith, sym, ◌∙◌, [], ◌∷◌}
+use Rattle.std.proofs.Common.{arith, sym, ◌∙◌}
 use Prim.Native.Char.{code}
 use Rattle.rules.specs.Letters.{horn, words, small}
 use Rattle.targets.proofs.Ends.{other_end, same_end}

@@ -90,7 +90,8 @@ fn in_case(letter: u16, small: u16) -> u16
     }
 }
 
-// The code point of a letter with a tone on it; 0 where there is none. A digit is its own code point.
+// The code point of a letter with a tone on it. A digit is its own code point.
+// 0 where there is none, and no Option: the clause, by point_or, is a promise.
 pub fn point(letter: u16, tone: u8) -> u16
     ensures { result ≡ point_or letter tone }
 {
@@ -101,8 +102,7 @@ pub fn point(letter: u16, tone: u8) -> u16
         return 0;
     }
     let small = letter % CAPITAL;
-    let row = vowels::row(small);
-    if row < vowels::ROWS {
+    if let Some(row) = vowels::row(small) {
         return in_case(letter, vowels::point(row, tone as usize));
     }
     if !is_letter(Word::VNI, letter) {

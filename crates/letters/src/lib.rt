@@ -42,11 +42,16 @@ pub fn is_plain(letter: u16) -> bool
 fn is_shaped(small: u16) -> bool
     ensures { result ≡ is_shaped_of small }
 {
-    match small {
-        vowels::A_BREVE | vowels::A_CIRCUMFLEX | vowels::E_CIRCUMFLEX => true,
-        vowels::O_CIRCUMFLEX | vowels::O_HORN | vowels::U_HORN | D_STROKE => true,
-        _ => false,
-    }
+    matches!(
+        small,
+        vowels::A_BREVE
+            | vowels::A_CIRCUMFLEX
+            | vowels::E_CIRCUMFLEX
+            | vowels::O_CIRCUMFLEX
+            | vowels::O_HORN
+            | vowels::U_HORN
+            | D_STROKE
+    )
 }
 
 // A digit: no capital, and in no shape.

@@ -18,8 +18,7 @@ fn wants(key: ShapeKey, n: u16) -> bool
         ShapeKey::CircumflexOn(own) => is_own(own, b),
         ShapeKey::Circumflex => is_aeo(b),
         ShapeKey::Breve => b == b'a',
-        ShapeKey::Horn => false,
-        ShapeKey::HornBreve => false,
+        ShapeKey::Horn | ShapeKey::HornBreve => false,
     }
 }
 

@@ -72,6 +72,7 @@ fn put_pairs(letters: &[u16], out: &mut [u8])
     ensures { out.new ≡ pairs letters.now }
 {
     for (i, letter) in letters.iter().enumerate() {
+        // By index: of bytes written through chunks that are lent out, a proof knows no values.
         let [low, high] = letter.to_le_bytes();
         out[2 * i] = low;
         out[2 * i + 1] = high;

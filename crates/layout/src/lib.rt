@@ -52,36 +52,17 @@ fn no_record() -> RecordRead
     }
 }
 
-fn number(low: u8, high: u8) -> u16
-    ensures { result ≡ low + 256 * high }
-{
-    low as u16 + 256 * high as u16
-}
-
 // The letters' numbers, two bytes each.
 fn letters_in(pairs: &[u8]) -> [u16; Word::KEYS]
     requires { length pairs.now ≡ 64 }
     ensures { result ≡ numbers pairs.now }
 {
     let mut letters = [0; Word::KEYS];
-    let mut i = 0;
-    while i < Word::KEYS {
-        letters[i] = number(pairs[2 * i], pairs[2 * i + 1]);
-        i += 1;
+    let (twos, _) = pairs.as_chunks::<2>();
+    for (i, two) in twos.iter().enumerate() {
+        letters[i] = u16::from_le_bytes(*two);
     }
     letters
-}
-
-fn low(n: u16) -> u8
-    ensures { result ≡ n % 256 }
-{
-    (n % 256) as u8
-}
-
-fn high(n: u16) -> u8
-    ensures { result ≡ n / 256 }
-{
-    (n / 256) as u8
 }
 
 // The bytes of the letters' numbers. The loop goes by the slice's length, so that the compiler puts it into its callers, where the
@@ -90,11 +71,11 @@ fn put_pairs(letters: &[u16], out: &mut [u8])
     requires { (length letters.now ≡ 32) × (length out.old ≡ 64) }
     ensures { out.new ≡ pairs letters.now }
 {
-    let mut i = 0;
-    while i < letters.len() {
-        out[2 * i] = low(letters[i]);
-        out[2 * i + 1] = high(letters[i]);
-        i += 1;
+    for (i, letter) in letters.iter().enumerate() {
+        // By index: of bytes written through chunks that are lent out, a proof knows no values.
+        let [low, high] = letter.to_le_bytes();
+        out[2 * i] = low;
+        out[2 * i + 1] = high;
     }
 }
 

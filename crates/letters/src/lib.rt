@@ -42,11 +42,16 @@ pub fn is_plain(letter: u16) -> bool
 fn is_shaped(small: u16) -> bool
     ensures { result ≡ is_shaped_of small }
 {
-    match small {
-        vowels::A_BREVE | vowels::A_CIRCUMFLEX | vowels::E_CIRCUMFLEX => true,
-        vowels::O_CIRCUMFLEX | vowels::O_HORN | vowels::U_HORN | D_STROKE => true,
-        _ => false,
-    }
+    matches!(
+        small,
+        vowels::A_BREVE
+            | vowels::A_CIRCUMFLEX
+            | vowels::E_CIRCUMFLEX
+            | vowels::O_CIRCUMFLEX
+            | vowels::O_HORN
+            | vowels::U_HORN
+            | D_STROKE
+    )
 }
 
 // A digit: no capital, and in no shape.
@@ -90,7 +95,8 @@ fn in_case(letter: u16, small: u16) -> u16
     }
 }
 
-// The code point of a letter with a tone on it; 0 where there is none. A digit is its own code point.
+// The code point of a letter with a tone on it. A digit is its own code point.
+// 0 where there is none, and no Option: the clause, by point_or, is a promise.
 pub fn point(letter: u16, tone: u8) -> u16
     ensures { result ≡ point_or letter tone }
 {
@@ -101,8 +107,7 @@ pub fn point(letter: u16, tone: u8) -> u16
         return 0;
     }
     let small = letter % CAPITAL;
-    let row = vowels::row(small);
-    if row < vowels::ROWS {
+    if let Some(row) = vowels::row(small) {
         return in_case(letter, vowels::point(row, tone as usize));
     }
     if !is_letter(Word::VNI, letter) {

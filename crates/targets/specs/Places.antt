@@ -1,5 +1,5 @@
 -- The targets of document 01's shape keys ("Rules for one key") as places in a word's letters.
-use Rattle.std.specs.Prelude.{Bool, true, false, [], ◌∷◌, ℕ, suc}
+use Rattle.std.specs.Prelude.{Bool, true, false, [], ◌∷◌, ℕ, suc, Option, Some, None}
 use Rattle.rules.specs.Letters.{Letters}
 use Rattle.rules.specs.KeyRoles.{own, is_aeo, is_a, is_q, is_pair, is_single}
 use Rattle.rules.specs.declared.Place.{Place}
@@ -14,6 +14,11 @@ wanted Circumflex x = is_aeo x
 wanted Breve x = is_a x
 wanted Horn x = false
 wanted HornBreve x = false
+
+-- what a search found, as a place
+abbrev pub place_of : Option ℕ → Place
+place_of (Some i) = At i
+place_of None = Nowhere
 
 -- a place, one letter further on
 abbrev pub next : Place → Place

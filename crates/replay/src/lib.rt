@@ -82,7 +82,7 @@ fn committed_text(
     match decision {
         Decision::Keep => show::in_room(letters, tone, line),
         Decision::Restore => {
-            line[0..keys.len()].copy_from_slice(keys);
+            line[..keys.len()].copy_from_slice(keys);
             keys.len()
         }
     }
@@ -105,7 +105,7 @@ fn line_of(w: Word, line: &mut [u8; LINE]) -> WordDone
     line[n] = NEWLINE;
     WordDone {
         bytes: n + 1,
-        decision: decision,
+        decision,
         acted: w.acted,
         undone: w.undone,
         appended: w.appended,
@@ -128,13 +128,9 @@ pub fn commit_word(mode: u8, keys: &[u8], line: &mut [u8; LINE]) -> WordAnswer
 fn put_line(line: &[u8], out: &mut [u8], at: usize)
     ensures { out.new ≡ line_at at line.now out.old }
 {
-    if out.len() < at {
-        return;
+    if at <= out.len() && line.len() <= out.len() - at {
+        out[at..at + line.len()].copy_from_slice(line);
     }
-    if out.len() - at < line.len() {
-        return;
-    }
-    out[at..at + line.len()].copy_from_slice(line);
 }
 
 impl Found {

@@ -93,15 +93,12 @@ fn line_of(w: Word, line: &mut [u8; LINE]) -> WordDone
     requires { out_of_range w ≡ false }
     ensures { (result ≡ done_of (word_of w)) × (line.new ≡ at_front (committed_line (word_of w)) line.old) }
 {
-    let all = w.letters;
-    let count = w.count as usize;
-    let letters = &all[0..count];
+    let letters = &w.letters[..w.count as usize];
     let verdict = syllable::verdict(letters, w.tone);
     let untouched = (w.acted == 0) & (w.undone == 0);
     let decision = word::decided(letters, untouched, w.closed, verdict);
-    let keys = w.keys;
-    let typed = w.typed as usize;
-    let n = committed_text(decision, letters, w.tone, &keys[0..typed], line);
+    let keys = &w.keys[..w.typed as usize];
+    let n = committed_text(decision, letters, w.tone, keys, line);
     line[n] = NEWLINE;
     WordDone {
         bytes: n + 1,

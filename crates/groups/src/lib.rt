@@ -85,6 +85,7 @@ pub fn written(n: u32) -> Groups
     let mut bytes = [0; 5];
     let mut left = n;
     let mut i = 0;
+    // A `while`: what ends it is the number. A `for` over the five places would have an end behind it that is never reached.
     while 128 <= left {
         bytes[i] = (128 + left % 128) as u8;
         left /= 128;
@@ -92,7 +93,7 @@ pub fn written(n: u32) -> Groups
     }
     bytes[i] = left as u8;
     Groups {
-        bytes: bytes,
+        bytes,
         count: i + 1,
     }
 }

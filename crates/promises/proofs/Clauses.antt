@@ -63,7 +63,7 @@ use Rattle.recording.specs.contracts.write as write
 use Rattle.recording.proofs.write.Reads as write-reads
 use Rattle.replay.specs.contracts.replay as replay
 use Rattle.replay.proofs.replay.Reads as replay-reads
-use Rattle.reader.specs.contracts.next_in as next-in
+use Rattle.reader.specs.contracts.Reader.next_in as next-in
 use Rattle.reader.proofs.One.{NextInPost, next_in_says}
 
 module _ {M : Type 1} {𝓤 : Ura M} (𝓛 : Logic 𝓤) (mem : Memory → SProp 𝓤) (run : Routine → Fun 𝓤) where

@@ -21,7 +21,7 @@ use Rattle.recording.specs.contracts.step_at as step-at
 use Rattle.recording.proofs.step_at.Reads as step-at-reads
 use Rattle.recording.specs.contracts.write as write
 use Rattle.recording.proofs.write.Reads as write-reads
-use Rattle.reader.specs.contracts.next_in as next-in
+use Rattle.reader.specs.contracts.Reader.next_in as next-in
 use Rattle.reader.proofs.One.{NextInPost}
 use Rattle.replay.specs.contracts.replay as replay
 use Rattle.replay.proofs.replay.Reads as replay-reads

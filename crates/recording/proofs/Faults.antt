@@ -1,14 +1,12 @@
--- The first faulty press of a drill: one turn of the search for it, what is known where there is none, and the writer's answer by its tests.
+-- The first faulty press of a drill: what is known where there is none, and the writer's answer by its tests.
 use mathlib.Core.Path.{◌≡◌, refl}
 use mathlib.Core.Bool.{true, false}
 use mathlib.Core.List.{List, [], ◌∷◌, map}
-use Prim.Native.Nat.{ℕ, suc, ◌+◌, ◌≤◌, ◌<◌}
-use native.Mathlib.Numerals.{add-one}
+use Prim.Native.Nat.{ℕ, suc, ◌≤◌, ◌<◌}
 use native.Mathlib.Omega.{arith}
 use lib.Dec.{T, lt→ltb}
 use lib.Ieee.Fits.{and_i}
-use lib.ListN.{length, drop, get_or, drop_of_length-le}
-use lib.Seq.{drop-cons}
+use lib.ListN.{length, drop}
 use Rattle.rules.specs.Refusals.{all, wrong_mode}
 use Rattle.rules.specs.TheWord.{at_front}
 use Rattle.rules.specs.declared.Refusal.{Refusal}
@@ -26,16 +24,6 @@ use Rattle.recording.proofs.Presses.{is_fine}
 -- the first faulty press from a place on
 abbrev pub fault : Progress → List ℕ → ℕ → Checked
 fault p s i = checked_from p i (map press_in (drop i s))
-
-module _ (p : Progress) (s : List ℕ) (i : ℕ) where
-  pub stops : {c : Checked} {r : Refusal} → i < length s → c ≡ checked p (press_in (get_or s i 0)) i i → c ≡ Faulty r → Faulty r ≡ fault p s i
-  stops h e f = simp (drop-cons s i 0 h, ← e, f)
-
-  pub goes : {c : Checked} → i < length s → c ≡ checked p (press_in (get_or s i 0)) i i → c ≡ Fine → fault (onward p (press_in (get_or s i 0))) s (i + 1) ≡ fault p s i
-  goes h e f = simp (drop-cons s i 0 h, ← e, f, add-one)
-
-  pub ends : length s ≤ i → Fine ≡ fault p s i
-  ends h = simp (drop_of_length-le s {i = i} h)
 
 -- where no press is faulty, each time is short
 pub all_short : (p : Progress) (i : ℕ) (s : List ℕ) → checked_from p i (map press_in s) ≡ Fine → T (all short_time s)

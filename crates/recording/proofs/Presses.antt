@@ -2,11 +2,11 @@
 use mathlib.Core.Path.{◌≡◌, refl, sym, ap, ◌∙◌}
 use mathlib.Core.Bool.{Bool, true, false, not, ◌||◌}
 use mathlib.Core.List.{[], ◌∷◌}
-use Prim.Native.Nat.{ℕ, ◌+◌, ◌-◌, ◌≤◌, ◌<◌}
+use Prim.Native.Nat.{ℕ, ◌+◌, ◌<◌}
 use Prim.Native.Char.{code}
 use native.Mathlib.Omega.{arith}
-use lib.Dec.{eqb, leb, ltb}
-use borrow.Author.Tests.{ltb-true, ltb-false, leb-true, leb-false, le-leb, lt-leb, ne_eqb}
+use lib.Dec.{eqb, ltb}
+use borrow.Author.Tests.{ltb-true, ltb-false, leb-false, le-leb, lt-leb, ne_eqb}
 use Rattle.rules.specs.KeyRoles.{is_key}
 use Rattle.rules.specs.Refusals.{row, first_row}
 use Rattle.rules.specs.declared.Refusal.{Refusal}
@@ -22,17 +22,6 @@ pub over : (mode k : ℕ) → 255 < k → false ≡ is_key mode k
 over mode k h =
     simp (le-leb (code "a") k (omega arith), lt-leb k (code "z") (omega arith), le-leb (code "A") k (omega arith), lt-leb k (code "Z") (omega arith), le-leb (code "0") k (omega arith), lt-leb k (code "9") (omega arith))
     (and_false (eqb mode 1))
-
--- milliseconds that are too long by themselves, or with those so far
-pub long_before : (total t : ℕ) → limit ≤ total → true ≡ leb limit (total + t)
-long_before total t h = sym (le-leb limit (total + t) (omega arith))
-
-pub long_now : (total t : ℕ) → total < limit → leb (limit - total) t ≡ leb limit (total + t)
-long_now total t h = by (leb (limit - total) t) refl
-  where
-    by : (b : Bool) → leb (limit - total) t ≡ b → b ≡ leb limit (total + t)
-    by true e = let l = leb-true (limit - total) t e in sym (le-leb limit (total + t) (omega arith))
-    by false e = let l = leb-false (limit - total) t e in sym (lt-leb limit (total + t) (omega arith))
 
 -- what the code asks of a key
 pub as_asked : (p : Progress) (k : ℕ) (t : Bool) → t ≡ is_key p.mode k → not_allowed p k ≡ not (is_space k || t)

@@ -1,12 +1,12 @@
 // A recorded drill: the mode, then for each key the milliseconds since the last key and the key, all as numbers in groups. One step of its reading, and its writer.
 #![tactic(auto)]
 
-ghost use Rattle.std.specs.Prelude.{◌≡◌, false, ◌++◌, map, ◌+◌, ◌≤◌, T, leb, length, take, drop};
+ghost use Rattle.std.specs.Prelude.{◌≡◌, false, ◌++◌, map, ◌+◌, ◌/◌, ◌%◌, ◌≤◌, T, leb, length, take, drop};
 ghost use Rattle.rules.specs.TheWord.{at_front};
 ghost use Rattle.rules.specs.KeyRoles.{is_key as is_key_of};
 ghost use Rattle.rules.specs.Refusals.{all};
 ghost use Rattle.groups.specs.Numbers.{limit, written};
-ghost use Rattle.recording.specs.Recordings.{is_space, press, none_yet as none_yet_of, in_word as in_word_of, onward as onward_of, word_full, refused_for, checked as checked_of, staying as staying_of, refused_step, step_at as step_at_of, begin as begin_of};
+ghost use Rattle.recording.specs.Recordings.{is_space, press, none_yet, in_word as in_word_of, onward as onward_of, word_full, refused_for, checked as checked_of, staying as staying_of, refused_step, step_at as step_at_of, begin as begin_of};
 ghost use Rattle.recording.specs.Drills.{press_in, short_time, drill_bytes, checked_from, written_drill};
 ghost use Rattle.recording.specs.declared.Checked.TheVariants.{Fine, Faulty};
 
@@ -64,6 +64,13 @@ pub enum BeginAnswer {
     Refused(Refusal),
 }
 
+// A press as the writer is handed it, one number, taken apart. Its time may be longer than a `KeyPress` can hold, and is refused only after the key.
+#[derive(Clone, Copy)]
+struct Given {
+    milliseconds: u64,
+    key: u8,
+}
+
 // A press that may follow, or the first of its refusals.
 #[derive(Clone, Copy)]
 enum Checked {
@@ -89,17 +96,50 @@ pub fn begin(recording: &[u8]) -> BeginAnswer
     }
     BeginAnswer::Begins(Begun {
         at: mode.groups,
-        progress: none_yet(mode.value as u8),
+        progress: Progress::new(mode.value as u8),
     })
 }
 
-fn none_yet(mode: u8) -> Progress
-    ensures { result ≡ none_yet_of mode }
-{
-    Progress {
-        mode: mode,
-        in_word: 0,
-        milliseconds: 0,
+impl Progress {
+    fn new(mode: u8) -> Progress
+        ensures { result ≡ none_yet mode }
+    {
+        Progress {
+            mode,
+            in_word: 0,
+            milliseconds: 0,
+        }
+    }
+
+    // How many keys the word that has begun has after one more: none after a space.
+    fn keys_after(self, key: u8) -> usize
+        requires { word_full self key ≡ false }
+        ensures { result ≡ in_word_of (is_space key) self.in_word }
+    {
+        if key == SPACE { 0 } else { self.in_word + 1 }
+    }
+
+    // How far the drill has come with a press more.
+    fn onward(self, x: KeyPress) -> Progress
+        requires { checked_of self x 0 0 ≡ Fine }
+        ensures { result ≡ onward_of self x }
+    {
+        Progress {
+            in_word: self.keys_after(x.key),
+            milliseconds: self.milliseconds + u64::from(x.milliseconds),
+            ..self
+        }
+    }
+}
+
+impl Given {
+    fn new(n: u64) -> Given
+        ensures { (result.milliseconds ≡ n / 256) × (result.key ≡ n % 256) }
+    {
+        Given {
+            milliseconds: n / 256,
+            key: (n % 256) as u8,
+        }
     }
 }
 
@@ -116,20 +156,14 @@ fn faulty(number: u8, place: usize) -> Checked
 fn is_key(mode: u8, key: u32) -> bool
     ensures { result ≡ is_key_of mode key }
 {
-    if 255 < key {
-        return false;
-    }
-    keys::is_key(mode, key as u8)
+    key < 256 && keys::is_key(mode, key as u8)
 }
 
 // Milliseconds that are together over the limit, whatever the two numbers are.
 fn too_long(total: u64, milliseconds: u64) -> bool
     ensures { result ≡ leb limit (total + milliseconds) }
 {
-    if LIMIT <= total {
-        return true;
-    }
-    LIMIT - total <= milliseconds
+    LIMIT <= total.saturating_add(milliseconds)
 }
 
 // What a press is refused for: 2 and 3 at the key's place, 11 at the time's.
@@ -147,29 +181,6 @@ fn check(progress: Progress, milliseconds: u64, key: u32, key_at: usize, time_at
         return faulty(11, time_at);
     }
     Checked::Fine
-}
-
-// How many keys the word that has begun has after one more: none after a space.
-fn keys_after(progress: Progress, key: u8) -> usize
-    requires { word_full progress key ≡ false }
-    ensures { result ≡ in_word_of (is_space key) progress.in_word }
-{
-    if key == SPACE {
-        return 0;
-    }
-    progress.in_word + 1
-}
-
-// How far the drill has come with a press more.
-fn onward(progress: Progress, x: KeyPress) -> Progress
-    requires { checked_of progress x 0 0 ≡ Fine }
-    ensures { result ≡ onward_of progress x }
-{
-    Progress {
-        mode: progress.mode,
-        in_word: keys_after(progress, x.key),
-        milliseconds: progress.milliseconds + (x.milliseconds as u64),
-    }
 }
 
 fn staying(x: Press, at: usize, progress: Progress) -> Stepped
@@ -217,30 +228,25 @@ pub fn step_at(recording: &[u8], at: usize, progress: Progress) -> Stepped
     Stepped {
         press: Press::Pressed(x),
         at: key_at + key.groups,
-        progress: onward(progress, x),
+        progress: progress.onward(x),
     }
 }
 
 // The first faulty press of a drill, by its place.
 fn first_fault(mode: u8, presses: &[u64]) -> Checked
-    ensures { result ≡ checked_from (none_yet_of mode) 0 (map press_in presses.now) }
+    ensures { result ≡ checked_from (none_yet mode) 0 (map press_in presses.now) }
 {
-    let mut progress = none_yet(mode);
-    let mut i = 0;
-    while i < presses.len() {
-        let n = presses[i];
-        let milliseconds = n / 256;
-        let key = n % 256;
-        let answer = check(progress, milliseconds, key as u32, i, i);
+    let mut progress = Progress::new(mode);
+    for (i, &n) in presses.iter().enumerate() {
+        let given = Given::new(n);
+        let answer = check(progress, given.milliseconds, given.key as u32, i, i);
         if let Checked::Faulty(r) = answer {
             return Checked::Faulty(r);
         }
-        let x = KeyPress {
-            milliseconds: milliseconds as u32,
-            key: key as u8,
-        };
-        progress = onward(progress, x);
-        i += 1;
+        progress = progress.onward(KeyPress {
+            milliseconds: given.milliseconds as u32,
+            key: given.key,
+        });
     }
     Checked::Fine
 }
@@ -251,11 +257,9 @@ fn bytes_needed(mode: u8, presses: &[u64]) -> usize
     ensures { result ≡ length (drill_bytes mode (map press_in presses.now)) }
 {
     let mut needed = count(mode as u32);
-    let mut i = 0;
-    while i < presses.len() {
-        let n = presses[i];
-        needed = needed + count((n / 256) as u32) + count((n % 256) as u32);
-        i += 1;
+    for &n in presses {
+        let given = Given::new(n);
+        needed += count(given.milliseconds as u32) + count(given.key as u32);
     }
     needed
 }
@@ -264,8 +268,7 @@ fn bytes_needed(mode: u8, presses: &[u64]) -> usize
 fn count(n: u32) -> usize
     ensures { (result ≡ length (written n)) × (result ≤ 5) }
 {
-    let groups = groups::written(n);
-    groups.count
+    groups::written(n).count
 }
 
 // A number at a place of the output, and the place behind it.
@@ -274,10 +277,9 @@ fn put_number(n: u32, out: &mut [u8], at: usize) -> usize
     ensures { (result ≡ at + length (written n)) × (out.new ≡ take at out.old ++ at_front (written n) (drop at out.old)) }
 {
     let groups = groups::written(n);
-    let bytes = groups.bytes;
-    let count = groups.count;
-    out[at..at + count].copy_from_slice(&bytes[0..count]);
-    at + count
+    let end = at + groups.count;
+    out[at..end].copy_from_slice(&groups.bytes[..groups.count]);
+    end
 }
 
 // A drill at the front of an output that has room for it.
@@ -286,12 +288,10 @@ fn put_drill(mode: u8, presses: &[u64], out: &mut [u8]) -> usize
     ensures { (result ≡ length (drill_bytes mode (map press_in presses.now))) × (out.new ≡ at_front (drill_bytes mode (map press_in presses.now)) out.old) }
 {
     let mut at = put_number(mode as u32, out, 0);
-    let mut i = 0;
-    while i < presses.len() {
-        let n = presses[i];
-        at = put_number((n / 256) as u32, out, at);
-        at = put_number((n % 256) as u32, out, at);
-        i += 1;
+    for &n in presses {
+        let given = Given::new(n);
+        at = put_number(given.milliseconds as u32, out, at);
+        at = put_number(given.key as u32, out, at);
     }
     at
 }

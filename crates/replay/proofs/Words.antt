@@ -26,7 +26,7 @@ use Rattle.rules.proofs.NotRefused.{typed_in_range, typed_word}
 use Rattle.word.proofs.Answers.{all_typed}
 use Rattle.replay.specs.Replays.{committed_line}
 use Rattle.replay.specs.Passes.{Fits, FitsKeys}
-use Rattle.replay.specs.declared.Total.{Total}
+use Rattle.replay.specs.declared.Found.{Found}
 
 module _ (m : ℕ) (ks : List ℕ) (mode : T (is_mode m)) (few : length ks ≤ most_keys) (allowed : T (all (is_key m) ks)) where
   accepted : (type_all m ks).answer ≡ AllTyped
@@ -61,7 +61,7 @@ module _ (m : ℕ) (ks : List ℕ) (mode : T (is_mode m)) (few : length ks ≤ m
   its_counts = counts_add_up m ks
 
   -- so a total that fits with so many keys fits with the word
-  pub fits_word : (t : Total) → FitsKeys t (length ks) → Fits t (length (committed_line (typed m ks))) (typed m ks).acted (typed m ks).undone (typed m ks).appended
+  pub fits_word : (t : Found) → FitsKeys t (length ks) → Fits t (length (committed_line (typed m ks))) (typed m ks).acted (typed m ks).undone (typed m ks).appended
   fits_word t f = record {
     written = omega (arith, f.written, line_long);
     words = f.words;

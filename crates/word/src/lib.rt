@@ -1,7 +1,7 @@
 // The word: start, a whole list of keys; the tone's place, the verdict and the decision of a word. One key is `step::step`.
 #![tactic(auto)]
 
-ghost use Rattle.std.specs.Prelude.{◌≡◌, ◌≤◌, T, length, map};
+ghost use Rattle.std.specs.Prelude.{◌≡◌, ◌≤◌, T, length, map, position, not};
 ghost use Rattle.rules.specs.TheWord.{letter, new_word, holding};
 ghost use Rattle.rules.specs.Decision.{starts_with_đ};
 ghost use Rattle.word.specs.Refusing.{refused_typing};
@@ -40,18 +40,11 @@ pub fn start(mode: u8) -> Start
     }
 }
 
-// How many keys stand before the first that the mode does not allow.
-fn allowed_before(mode: u8, keys: &[u8]) -> usize
-    ensures { result ≡ allowed_before_of mode keys.now }
+// The place of the first key that the mode does not allow.
+fn first_wrong(mode: u8, keys: &[u8]) -> Option<usize>
+    ensures { result ≡ position (λ key. not (is_key mode key)) keys.now }
 {
-    let mut i = 0;
-    while i < keys.len() {
-        if !keys::is_key(mode, keys[i]) {
-            return i;
-        }
-        i += 1;
-    }
-    i
+    keys.iter().position(|key| !keys::is_key(mode, *key))
 }
 
 // Allowed keys, few enough, typed one after the other into the bytes of a new word, of which the record is put together once, at the end.
@@ -63,10 +56,8 @@ fn typed_all(mode: u8, keys: &[u8]) -> Word
     let w = begun.word;
     let mut bytes = [0; layout::LENGTH];
     layout::write(w, &mut bytes);
-    let mut i = 0;
-    while i < keys.len() {
-        step::step_at(&mut bytes, keys[i]);
-        i += 1;
+    for &key in keys {
+        step::step_at(&mut bytes, key);
     }
     let reading = layout::read(&bytes);
     reading.word
@@ -91,13 +82,11 @@ pub fn type_all(mode: u8, keys: &[u8]) -> TypeAll
     if !keys::is_mode(mode) {
         return refused(1, 0);
     }
-    let n = keys.len();
-    if Word::KEYS < n {
+    if Word::KEYS < keys.len() {
         return refused(2, Word::KEYS);
     }
-    let allowed = allowed_before(mode, keys);
-    if allowed < n {
-        return refused(3, allowed);
+    if let Some(place) = first_wrong(mode, keys) {
+        return refused(3, place);
     }
     TypeAll {
         answer: TypeAnswer::AllTyped,
@@ -156,17 +145,17 @@ pub fn decision(w: Word) -> DecisionAnswer
 pub fn decided(letters: &[u16], untouched: bool, closed: bool, verdict: u8) -> Decision
     ensures { result ≡ decided_by untouched closed (map letter letters.now) verdict }
 {
-    if untouched | (closed | (starts_with_d_stroke(letters) | (verdict == 0))) {
-        return Decision::Keep;
+    if untouched || closed || starts_with_d_stroke(letters) || verdict == 0 {
+        Decision::Keep
+    } else {
+        Decision::Restore
     }
-    Decision::Restore
 }
 
 fn starts_with_d_stroke(letters: &[u16]) -> bool
     ensures { result ≡ starts_with_đ (map letter letters.now) }
 {
-    if letters.len() == 0 {
-        return false;
-    }
-    rules::is(letters[0], b'd', STROKE)
+    letters
+        .first()
+        .is_some_and(|first| rules::is(*first, b'd', STROKE))
 }

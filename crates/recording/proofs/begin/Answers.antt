@@ -14,5 +14,5 @@ returns-then-mode c = wrong_mode_law c.args.recording.now c.in-Read.mode (sym c.
 
 pub returns : goal.returns
 returns c =
-    ap (λ (p : Progress). let b : Begun = record { at = c.in-Read.mode.groups; progress = p } in Begins b) c.none_yet.ensures ∙
+    ap (λ (p : Progress). let b : Begun = record { at = c.in-Read.mode.groups; progress = p } in Begins b) c.new.ensures ∙
     in_mode c.args.recording.now c.in-Read.mode (sym c.in-Read.is ∙ c.number_at.ensures) c.if-mode.false

@@ -1,8 +1,8 @@
--- `replay::add_word` meets its contract: what is counted and put is the word that its keys make.
+-- `replay::Found::add_word` meets its contract: what is counted and put is the word that its keys make.
 use mathlib.Core.Path.{◌≡◌, sym, ap, subst, ◌∙◌}
 use mathlib.Core.Bool.{false}
 use mathlib.Core.List.{List}
-use Prim.Native.Nat.{ℕ, ◌-◌, ◌≤◌}
+use Prim.Native.Nat.{ℕ, ◌≤◌}
 use native.Mathlib.Omega.{arith}
 use lib.Dec.{T}
 use lib.ListN.{length, take, replicate}
@@ -16,7 +16,7 @@ use Rattle.replay.specs.Replays.{committed_line, done_of}
 use Rattle.replay.specs.Passes.{Fits, with_done, line_at}
 use Rattle.replay.specs.declared.WordDone.{WordDone}
 use Rattle.replay.proofs.Words.{word_in_range, is_typed, fits_word}
-use Rattle.replay.proofs.add_word.Goals as goal
+use Rattle.replay.proofs.Found.add_word.Goals as goal
 
 -- the word that allowed keys make, what is counted of it, and its line as it is then
 module _ (m : ℕ) (ks : List ℕ) (mode : T (is_mode m)) (few : length ks ≤ 32) (allowed : T (all (is_key m) ks)) (all_typed : TypeAll) (e : all_typed ≡ type_all m ks) where
@@ -30,21 +30,21 @@ module _ (m : ℕ) (ks : List ℕ) (mode : T (is_mode m)) (few : length ks ≤ 3
     done : word ≡ done_of (typed m ks)
     done = f ∙ ap done_of its_word
 
-    its_line : (line : List ℕ) → line ≡ at_front (committed_line (word_of all_typed.word)) (replicate 97 0) → take (word.bytes - 0) line ≡ committed_line (typed m ks)
+    its_line : (line : List ℕ) → line ≡ at_front (committed_line (word_of all_typed.word)) (replicate 97 0) → take (word.bytes) line ≡ committed_line (typed m ks)
     its_line line g =
-        let long : length (committed_line (typed m ks)) ≡ word.bytes - 0 = omega (arith, ap (λ (d : WordDone). d.bytes) done) in
-        ap (take (word.bytes - 0)) (g ∙ ap (λ (y : Typed). at_front (committed_line y) (replicate 97 0)) its_word) ∙ read_front (committed_line (typed m ks)) (replicate 97 0) (word.bytes - 0) long
+        let long : length (committed_line (typed m ks)) ≡ word.bytes = omega (arith, ap (λ (d : WordDone). d.bytes) done) in
+        ap (take (word.bytes)) (g ∙ ap (λ (y : Typed). at_front (committed_line y) (replicate 97 0)) its_word) ∙ read_front (committed_line (typed m ks)) (replicate 97 0) (word.bytes) long
 
 pub line_of-word-requires : goal.line_of-word-requires
 line_of-word-requires c = in_range c.args.mode c.args.keys.now c.requires.0 c.requires.1 c.requires.2 _ c.type_all-all.ensures
 
-pub with_word-requires : goal.with_word-requires
-with_word-requires c =
+pub add-requires : goal.add-requires
+add-requires c =
     let d = done c.args.mode c.args.keys.now c.requires.0 c.requires.1 c.requires.2 _ c.type_all-all.ensures _ c.line_of-word.ensures.0 in
-    subst (λ (d : WordDone). Fits c.args.total d.bytes d.acted d.undone d.appended) (sym d) (fits_word c.args.mode c.args.keys.now c.requires.0 c.requires.1 c.requires.2 c.args.total c.requires.3)
+    subst (λ (d : WordDone). Fits c.args.self.now d.bytes d.acted d.undone d.appended) (sym d) (fits_word c.args.mode c.args.keys.now c.requires.0 c.requires.1 c.requires.2 c.args.self.now c.requires.3)
 
 pub returns : goal.returns
 returns c =
     let d = done c.args.mode c.args.keys.now c.requires.0 c.requires.1 c.requires.2 _ c.type_all-all.ensures _ c.line_of-word.ensures.0 in
     let l = its_line c.args.mode c.args.keys.now c.requires.0 c.requires.1 c.requires.2 _ c.type_all-all.ensures _ c.line_of-word.ensures.0 _ c.line_of-word.ensures.1 in
-    (c.with_word.ensures ∙ ap (with_done c.args.total) d, c.put_line.ensures ∙ ap (λ (l : List ℕ). line_at c.args.total.written l c.args.out.now) l)
+    (c.add.ensures ∙ ap (with_done c.args.self.now) d, c.put_line.ensures ∙ ap (λ (l : List ℕ). line_at c.args.self.now.written l c.args.out.now) l)

@@ -47,7 +47,6 @@ impl Window {
 
     // The rest of the block at its front, and what a read brings behind it. None where the read fails.
     pub(crate) fn fill(self, rt: &HostRuntime, block: &mut [u8]) -> Option<Window>
-        requires { self.end ≤ self.at + 10 }
         ensures { self.at ≤ self.end → self.end ≤ length block.old → ReadOn self block.old block.new result }
     {
         let end = self.end.min(block.len());
@@ -66,14 +65,11 @@ impl Window {
     }
 }
 
-// The bytes between two places of a block, no more than a step can have, moved to its front; how many they are.
+// The bytes between two places of a block, moved to its front; how many they are.
 fn to_front(block: &mut [u8], at: usize, end: usize) -> usize
-    requires { (at ≤ end) × (end ≤ length block.old) × (end ≤ at + 10) }
+    requires { (at ≤ end) × (end ≤ length block.old) }
     ensures { (result ≡ end - at) × (block.new ≡ at_front (take (end - at) (drop at block.old)) block.old) }
 {
-    let n = end - at;
-    let mut rest = [0; STEP];
-    rest[..n].copy_from_slice(&block[at..end]);
-    block[..n].copy_from_slice(&rest[..n]);
-    n
+    block.copy_within(at..end, 0);
+    end - at
 }

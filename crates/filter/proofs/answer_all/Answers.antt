@@ -1,6 +1,6 @@
--- `filter::run` is safe: the header lies within the output, and the output has room for the answers to a block.
+-- `filter::answer_all` is safe: the header lies within the output, and the output has room for the answers to a block.
 use Rattle.filter.proofs.Lengths.{header_in_front}
-use Rattle.filter.proofs.run.Goals as goal
+use Rattle.filter.proofs.answer_all.Goals as goal
 
 pub slice_bounds-written-end : goal.slice_bounds-written-end
 slice_bounds-written-end c =

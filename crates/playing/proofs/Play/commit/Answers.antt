@@ -1,6 +1,6 @@
--- `playing::commit` is safe: the word's line lies within its buffer.
+-- `playing::Play::commit` is safe: the word's line lies within its buffer.
 use Rattle.playing.proofs.Lengths.{line_within}
-use Rattle.playing.proofs.commit.Goals as goal
+use Rattle.playing.proofs.Play.commit.Goals as goal
 
 pub slice_bounds-put_committed-end : goal.slice_bounds-put_committed-end
 slice_bounds-put_committed-end c =

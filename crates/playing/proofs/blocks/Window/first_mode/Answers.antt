@@ -1,13 +1,13 @@
--- `playing::blocks::first_mode` meets its contract: the mode that is found in the part is that of the whole recording.
+-- `playing::blocks::Window::first_mode` meets its contract: the mode that is found in the part is that of the whole recording.
 use Rattle.std.proofs.Common.{◌-◌, sym, ap, ◌∙◌, arith}
 use Rattle.recording.specs.Recordings.{begin}
 use Rattle.playing.specs.Parts.{shown_in}
 use Rattle.playing.proofs.Parts.{same_mode}
 use Rattle.playing.proofs.Shorts.{take_least}
-use Rattle.playing.proofs.blocks.first_mode.Goals as goal
+use Rattle.playing.proofs.blocks.Window.first_mode.Goals as goal
 
 pub returns : goal.returns
 returns c s rest part enough =
-    let w = c.args.window in
+    let w = c.args.self in
     same_mode s (shown_in w c.args.block.now) rest part enough ∙
-    ap begin (sym (take_least w.end (c.least-n.result - 0) c.args.block.now (omega (arith, c.least-n.ensures)))) ∙ sym c.begin.ensures
+    ap begin (sym (take_least w.end (c.min-n.result - 0) c.args.block.now (omega (arith, c.min-n.ensures)))) ∙ sym c.begin.ensures

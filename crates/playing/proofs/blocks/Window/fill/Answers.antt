@@ -1,8 +1,8 @@
--- `playing::blocks::fill` meets its contract: what was not yet played stands at the front of the block, and what a read brought behind it.
+-- `playing::blocks::Window::fill` meets its contract: what was not yet played stands at the front of the block, and what a read brought behind it.
 use Rattle.std.proofs.Common.{◌≡◌, ℕ, ◌+◌, ◌-◌, ◌%◌, ◌^◌, ◌≤◌, length, take, drop, refl, ap, ◌∙◌, ap₂, arith, length-drop, length-take}
 use Rattle.playing.specs.Parts.{cannot, reads}
 use Rattle.playing.proofs.Fronts.{still_there, read_within}
-use Rattle.playing.proofs.blocks.fill.Goals as goal
+use Rattle.playing.proofs.blocks.Window.fill.Goals as goal
 
 pub returns-in_default : goal.returns-in_default
 returns-in_default c inside within = cannot
@@ -12,12 +12,12 @@ longer a m n e = omega arith
 
 pub returns : goal.returns
 returns c inside within =
-    let w = c.args.window in
+    let w = c.args.self in
     let block = c.args.block.now in
-    let end = c.least-end.result in
-    let at = c.least-at.result in
-    let end_is : end ≡ w.end = omega (arith, c.least-end.ensures) in
-    let at_is : at ≡ w.at = omega (arith, c.least-at.ensures) in
+    let end = c.min-end.result in
+    let at = c.min-at.result in
+    let end_is : end ≡ w.end = omega (arith, c.min-end.ensures) in
+    let at_is : at ≡ w.at = omega (arith, c.min-at.ensures) in
     let there = take (end - at) (drop at block) in
     let m = c.to_front-rest.result in
     let long : m ≡ length there = omega (arith, c.to_front-rest.ensures.0, length-take (end - at) (drop at block), length-drop at block) in
@@ -25,7 +25,7 @@ returns c inside within =
     let moved = c.to_front-rest.new.block in
     let still = still_there m (length moved - m) there block moved c.read.new.buf long c.to_front-rest.ensures.1 in
     reads _
-    (c.wrapping_add_u64.ensures.value ∙ ap (λ (j : ℕ). (w.start + j) % 2 ^ 64) at_is)
+    (ap (λ (j : ℕ). (w.start + j) % 2 ^ 64) at_is)
     refl
     (longer (w.end - w.at) m c.in-Ok.more kept)
     (read_within m c.in-Ok.more (length moved - m) there block moved c.read.new.buf long c.to_front-rest.ensures.1 c.in-Ok.ensures.bound.0)

@@ -9,7 +9,7 @@ ghost use Rattle.rules.specs.Decision.{handed_back as handed_back_of};
 ghost use Rattle.rules.specs.Refusals.{out_of_range};
 ghost use Rattle.rules.specs.Drill.{decision_column, columns, word_columns as word_columns_of, keys_line as keys_line_of, mode_of, key_columns as key_columns_of};
 ghost use Rattle.lines.specs.Appending.{Appends, ended_by, most_in_line};
-ghost use Rattle.lines.specs.Programs.{word_line_of, answer_of, line_answer};
+ghost use Rattle.lines.specs.Programs.{word_line_of, six_end as six_end_of, answer_of, line_answer};
 
 use line::{Line, NEWLINE, SPACE};
 use rules::{Decision, TypeAnswer, Word, WriteAnswer};
@@ -63,7 +63,7 @@ fn word_columns(answer: &mut Line, w: Word, end: u8)
     answer.number(verdict, SPACE);
     answer.number(w.tone, SPACE);
     answer.place(place, SPACE);
-    answer.byte(letter(decision), end);
+    answer.append(&[letter(decision), end]);
 }
 
 // The two columns of a word's key places.
@@ -76,13 +76,20 @@ fn key_columns(answer: &mut Line, w: Word)
     answer.key(w.toned_by, NEWLINE);
 }
 
+// What ends the six columns: a newline, or a space where the places of the keys follow.
+fn six_end(keyed: bool) -> u8
+    ensures { result ≡ six_end_of keyed }
+{
+    if keyed { SPACE } else { NEWLINE }
+}
+
 // The line of a word in range, with the places of its keys or without. The six columns are written at one place in
-// the code, so that the compiler keeps them in line.
+// the code, and their end is asked in a function of its own, so that the compiler keeps them in line.
 fn word_line(answer: &mut Line, w: Word, keyed: bool)
     requires { (answer.old.at ≡ 0) × (out_of_range w ≡ false) }
     ensures { Appends answer.old answer.new (word_line_of keyed (word_of w)) }
 {
-    word_columns(answer, w, if keyed { SPACE } else { NEWLINE });
+    word_columns(answer, w, six_end(keyed));
     if keyed {
         key_columns(answer, w);
     }

@@ -39,15 +39,7 @@ impl Line {
         &self.text[..self.at]
     }
 
-    fn push(&mut self, b: u8)
-        requires { self.old.at < most_in_line }
-        ensures { Appends self.old self.new (b ∷ []) }
-    {
-        self.text[self.at] = b;
-        self.at += 1;
-    }
-
-    fn append(&mut self, part: &[u8])
+    pub(crate) fn append(&mut self, part: &[u8])
         requires { self.old.at + length part.now ≤ most_in_line }
         ensures { Appends self.old self.new part.now }
     {
@@ -56,24 +48,16 @@ impl Line {
         self.at = next;
     }
 
-    pub(crate) fn byte(&mut self, b: u8, end: u8)
-        requires { self.old.at + 1 < most_in_line }
-        ensures { Appends self.old self.new (b ∷ end ∷ []) }
-    {
-        self.push(b);
-        self.push(end);
-    }
-
     // A number in decimal.
     pub(crate) fn number(&mut self, n: u8, end: u8)
         requires { self.old.at + 2 < most_in_line }
         ensures { Appends self.old self.new (decimal n ++ (end ∷ [])) }
     {
         if n < 10 {
-            return self.byte(b'0' + n, end);
+            self.append(&[b'0' + n, end]);
+        } else {
+            self.append(&[b'0' + n / 10, b'0' + n % 10, end]);
         }
-        self.push(b'0' + n / 10);
-        self.byte(b'0' + n % 10, end)
     }
 
     // A text, or a hyphen where it is empty.
@@ -82,10 +66,10 @@ impl Line {
         ensures { Appends self.old self.new (or_hyphen part.now ++ (end ∷ [])) }
     {
         if part.is_empty() {
-            return self.byte(b'-', end);
+            return self.append(&[b'-', end]);
         }
         self.append(part);
-        self.push(end);
+        self.append(&[end]);
     }
 
     pub(crate) fn place(&mut self, place: Place, end: u8)
@@ -93,7 +77,7 @@ impl Line {
         ensures { Appends self.old self.new (place_column place ++ (end ∷ [])) }
     {
         let Place::At(n) = place else {
-            return self.byte(b'-', end);
+            return self.append(&[b'-', end]);
         };
         self.number(n as u8, end)
     }
@@ -104,7 +88,7 @@ impl Line {
         ensures { Appends self.old self.new (place_or_hyphen key ++ (end ∷ [])) }
     {
         if key == Word::NO_KEY {
-            return self.byte(b'-', end);
+            return self.append(&[b'-', end]);
         }
         self.number(key, end)
     }
@@ -127,7 +111,7 @@ impl Line {
             appended.split_last(),
             shaped.split_last(),
         ) else {
-            return self.byte(b'-', end);
+            return self.append(&[b'-', end]);
         };
         for (appended, shaped) in appended.iter().zip(shaped) {
             self.letter(*appended, *shaped, b',');
@@ -140,7 +124,7 @@ impl Line {
         requires { (self.old.at ≡ 0) × (r.value < 256) }
         ensures { Appends self.old self.new (refused_line r) }
     {
-        self.byte(b'!', SPACE);
+        self.append(&[b'!', SPACE]);
         self.number(r.number, SPACE);
         self.number(r.value as u8, NEWLINE);
     }
@@ -155,7 +139,7 @@ impl Line {
             WriteAnswer::Refused(refusal) => self.refused(refusal),
             WriteAnswer::Wrote(n) => {
                 self.at = n;
-                self.push(NEWLINE);
+                self.append(&[NEWLINE]);
             }
         }
     }

@@ -35,8 +35,8 @@ place-requires c =
     let o = decimal_long w.tone 32 in
     (omega (arith, c.requires.0, c.text.ensures.moved, c.text-2.ensures.moved, c.number.ensures.moved, c.number-2.ensures.moved), place_fits w c.requires.1 _ c.tone_place-place.ensures)
 
-pub byte-requires : goal.byte-requires
-byte-requires c =
+pub append-requires : goal.append-requires
+append-requires c =
     let w = c.args.w in
     let text = text_made w c.requires.1 c.in_room-n.result _ (lit≤ tt) c.in_room-n.ensures.0 _ c.in_room-n.ensures.1 in
     let shown = take c.in_room-n.result c.in_room-n.new.out in
@@ -65,4 +65,4 @@ returns c =
         its_columns w c.requires.1 shown v p x end text c.verdict-verdict.ensures c.tone_place-place.ensures (c.decided-decision.ensures ∙ its_decision w c.requires.1 v c.verdict-verdict.ensures))
     (and_then_law c.text.ensures
       (and_then_law (as_part (ap (λ (l : List ℕ). or_hyphen l ++ (32 ∷ [])) c.handed_back.ensures) c.text-2.ensures)
-        (and_then_law c.number.ensures (and_then_law c.number-2.ensures (and_then_law c.place.ensures (as_part (ap (λ (l : List ℕ). l ++ (end ∷ [])) c.letter.ensures) c.byte.ensures))))))
+        (and_then_law c.number.ensures (and_then_law c.number-2.ensures (and_then_law c.place.ensures (as_part (ap (λ (l : List ℕ). l ++ (end ∷ [])) c.letter.ensures) c.append.ensures))))))

@@ -13,4 +13,4 @@ key_columns-requires c =
     let w = c.args.w in
     let letters : length (word_of w).state.letters ≤ most_keys = simp (length-map, length-take) (omega (arith, few_letters w c.requires.1)) in
     let keys : length (word_of w).keys ≤ most_keys = simp length-take (omega (arith, few_typed w c.requires.1)) in
-    (omega (arith, c.requires.0, c.word_columns.ensures.moved, word_long (word_of w) most_keys letters keys c.if-keyed.word_columns), c.requires.1)
+    (omega (arith, c.requires.0, c.word_columns.ensures.moved, word_long (word_of w) most_keys letters keys c.six_end.result), c.requires.1)

@@ -22,8 +22,8 @@ invariant_of-self-in-Wrote c =
     let q = spelled c.args.mode c.args.syllable.now c.args.self.now.text room c.spell-answer.result _ c.spell-answer.ensures.0 c.spell-answer.ensures.1 _ c.in-Wrote.is in
     record { within = omega (arith, q.few) }
 
-pub push-requires : goal.push-requires
-push-requires c =
+pub append-requires : goal.append-requires
+append-requires c =
     let room : most_in_line ≤ length c.args.self.now.text = omega arith in
     let q = spelled c.args.mode c.args.syllable.now c.args.self.now.text room c.spell-answer.result _ c.spell-answer.ensures.0 c.spell-answer.ensures.1 _ c.in-Wrote.is in
     omega (arith, q.few)
@@ -38,4 +38,4 @@ pub returns-in-Wrote : goal.returns-in-Wrote
 returns-in-Wrote c =
     let room : most_in_line ≤ length c.args.self.now.text = omega arith in
     let q = spelled c.args.mode c.args.syllable.now c.args.self.now.text room c.spell-answer.result _ c.spell-answer.ensures.0 c.spell-answer.ensures.1 _ c.in-Wrote.is in
-    keys_put _ _ c.requires q.line (omega (arith, q.inside)) c.push.ensures.moved c.push.ensures.front
+    keys_put _ _ c.requires q.line (omega (arith, q.inside)) c.append.ensures.moved c.append.ensures.front

@@ -1,11 +1,11 @@
 -- The places of the keys: the column of the letters is what the loop over them writes and the last letter behind it, and how long the two columns can be.
 use mathlib.Core.Path.{◌≡◌, refl, sym, ap, ap₂, ◌∙◌}
 use mathlib.Core.List.{List, [], ◌∷◌, ◌++◌, append_assoc, append-nil}
-use Prim.Native.Nat.{ℕ, zero, suc, ◌+◌, ◌*◌, ◌≤◌, ◌<◌}
+use Prim.Native.Nat.{ℕ, ◌+◌, ◌*◌, ◌≤◌, ◌<◌}
 use Prim.Native.Char.{code}
 use native.Mathlib.Omega.{arith}
 use lib.Dec.{lit≤, lit<}
-use lib.ListN.{length, take, get_or, length-append}
+use lib.ListN.{length, length-append}
 use Rattle.rules.specs.TheWord.{Typed}
 use Rattle.rules.specs.Drill.{newline, or_hyphen, joined, columns, place_or_hyphen, letter_place, each_letter, letter_places, word_columns, key_columns, word_line_with_keys}
 use Rattle.lines.specs.Appending.{Appends, held, ended_by}

@@ -1,22 +1,13 @@
 -- What each program answers behind the start of a line.
-use mathlib.Core.Path.{◌≡◌, refl, sym, ap, ap₂, ◌∙◌}
-use mathlib.Core.Bool.{Bool, true, false}
-use mathlib.Core.List.{List, [], ◌∷◌}
-use Prim.Native.Nat.{ℕ, ◌-◌, ◌≤◌, ◌<◌}
-use Prim.Native.Char.{code}
-use native.Mathlib.Omega.{arith}
-use borrow.Author.Tests.{eq-eqb, ne_eqb}
-use lib.Dec.{eqb}
-use lib.ListN.{length, take, drop, get_or, length-drop}
-use lib.Seq.{take_all}
-use Rattle.rules.specs.Letters.{telex, vni}
-use Rattle.rules.specs.Drill.{word_line, word_line_with_keys, keys_line, no_mode, mode_by, mode_of, answer_line, answer_line_with_keys}
+use mathlib.Core.Path.{◌≡◌, refl, sym, ◌∙◌}
+use mathlib.Core.List.{List}
+use Prim.Native.Nat.{ℕ}
+use lib.ListN.{drop}
+use Rattle.rules.specs.Drill.{word_line, word_line_with_keys, keys_line, mode_of, answer_line, answer_line_with_keys}
 use Rattle.rules.specs.SpellProgram.{spelled_line, spell_line}
-use Rattle.output.specs.Front.{put}
 use Rattle.lines.specs.declared.Program.{Program}
 use Rattle.lines.specs.declared.Program.TheVariants.{Drill, DrillWithKeys, Spell}
-use Rattle.lines.specs.Appending.{Appends}
-use Rattle.lines.specs.Programs.{answer_of, line_answer}
+use Rattle.lines.specs.Programs.{answer_of}
 
 -- what a program answers behind the start
 abbrev pub rest_of : Program → ℕ → List ℕ → List ℕ

@@ -1,9 +1,9 @@
 -- What the line of a word in range is made of, and the line of keys: their word's, or a refusal's whose numbers fit their columns.
 use mathlib.Core.Path.{◌≡◌, refl, sym, ap, subst, ◌∙◌}
 use mathlib.Core.Bool.{Bool, true, false, not, ◌&&◌}
-use mathlib.Core.List.{List, [], ◌∷◌, map}
+use mathlib.Core.List.{List, [], ◌∷◌}
 use mathlib.Core.Option.{Option, none, some}
-use Prim.Native.Nat.{ℕ, suc, ◌+◌, ◌-◌, ◌≤◌, ◌<◌}
+use Prim.Native.Nat.{ℕ, suc, ◌+◌, ◌≤◌, ◌<◌}
 use native.Mathlib.Omega.{arith}
 use borrow.Author.Tests.{ltb-false}
 use lib.Dec.{T, eqb, ltb, lit≤}
@@ -11,13 +11,13 @@ use lib.ListN.{length, take, length-take, length-map}
 use Rattle.rules.specs.Letters.{Letters}
 use Rattle.rules.specs.TakingApart.{verdict}
 use Rattle.rules.specs.TonePlace.{tone_place}
-use Rattle.rules.specs.TheWord.{most_keys, most_bytes, Typed, letter, word_of, at_front}
+use Rattle.rules.specs.TheWord.{most_keys, most_bytes, Typed, word_of, at_front}
 use Rattle.rules.specs.KeyRoles.{is_key}
 use Rattle.rules.specs.CodePoints.{shown}
 use Rattle.rules.specs.Decision.{keeps, decision, handed_back}
 use Rattle.rules.specs.Refusals.{all, is_mode, allowed_before, out_of_range, refusal}
 use Rattle.rules.specs.WhatComesBack.{type_all}
-use Rattle.rules.specs.Drill.{decimal, or_hyphen, place_column, decision_column, columns, word_columns, refused_line, line_or, keys_line, place_or_hyphen, letter_places, key_columns}
+use Rattle.rules.specs.Drill.{decimal, or_hyphen, place_column, decision_column, word_columns, refused_line, line_or, keys_line}
 use Rattle.rules.specs.declared.Word.{Word}
 use Rattle.rules.specs.declared.Refusal.{Refusal}
 use Rattle.rules.specs.declared.TypeAnswer.TheVariants.{AllTyped}
@@ -30,7 +30,7 @@ use Rattle.rules.proofs.NotRefused.{refused_as, not_refused, typed_word}
 use Rattle.rules.proofs.TonePlaces.{place_in_word}
 use Rattle.rules.proofs.Range.{in_range, few_letters}
 use Rattle.word.specs.Deciding.{decided_by}
-use Rattle.show.specs.Filling.{text_of, room_text}
+use Rattle.show.specs.Filling.{room_text}
 use Rattle.show.proofs.Texts.{text_of_law}
 use Rattle.show.proofs.Answers.{in_room}
 use Rattle.lines.specs.Appending.{ended_by, SmallPlace}

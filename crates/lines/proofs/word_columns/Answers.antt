@@ -1,11 +1,11 @@
 -- `lines::word_columns` meets its contract: the columns hold the word's text, keys, verdict, tone, place and decision.
-use mathlib.Core.Path.{◌≡◌, ap, sym, ◌∙◌}
+use mathlib.Core.Path.{ap, ◌∙◌}
 use mathlib.Core.List.{List, [], ◌∷◌, ◌++◌}
 use Prim.Native.Nat.{ℕ, ◌≤◌}
 use native.Mathlib.Omega.{arith}
 use lib.Dec.{lit≤}
 use lib.ListN.{length, take, length-take}
-use Rattle.rules.specs.TheWord.{most_bytes, most_keys}
+use Rattle.rules.specs.TheWord.{most_bytes}
 use Rattle.rules.specs.Decision.{handed_back}
 use Rattle.rules.specs.Drill.{decimal, or_hyphen, place_column, decision_column}
 use Rattle.rules.proofs.Range.{few_letters}
@@ -62,7 +62,7 @@ returns c =
     let end = c.args.end in
     as_part
     (in_six (or_hyphen shown) (or_hyphen (handed_back x shown (take w.typed w.keys))) (decimal v) (decimal w.tone) (place_column p) (decision_column x) end ∙
-        its_columns w c.requires.1 shown v p x end text c.verdict-verdict.ensures c.tone_place-place.ensures (c.decided-decision.ensures ∙ its_decision w c.requires.1 v c.verdict-verdict.ensures))
+    its_columns w c.requires.1 shown v p x end text c.verdict-verdict.ensures c.tone_place-place.ensures (c.decided-decision.ensures ∙ its_decision w c.requires.1 v c.verdict-verdict.ensures))
     (and_then_law c.text.ensures
-      (and_then_law (as_part (ap (λ (l : List ℕ). or_hyphen l ++ (32 ∷ [])) c.handed_back.ensures) c.text-2.ensures)
-        (and_then_law c.number.ensures (and_then_law c.number-2.ensures (and_then_law c.place.ensures (as_part (ap (λ (l : List ℕ). l ++ (end ∷ [])) c.letter.ensures) c.append.ensures))))))
+    (and_then_law (as_part (ap (λ (l : List ℕ). or_hyphen l ++ (32 ∷ [])) c.handed_back.ensures) c.text-2.ensures)
+    (and_then_law c.number.ensures (and_then_law c.number-2.ensures (and_then_law c.place.ensures (as_part (ap (λ (l : List ℕ). l ++ (end ∷ [])) c.letter.ensures) c.append.ensures))))))

@@ -2,7 +2,7 @@
 use mathlib.Core.Path.{◌≡◌, refl, sym, ap, ap₂, ◌∙◌}
 use mathlib.Core.List.{List, [], ◌∷◌, ◌++◌}
 use mathlib.Core.Logic.{inl, inr}
-use Prim.Native.Nat.{ℕ, ◌≤◌}
+use Prim.Native.Nat.{ℕ}
 use native.Mathlib.Omega.{arith}
 use lib.ListN.{length}
 use Rattle.rules.specs.Drill.{or_hyphen, letter_place, letter_places}
@@ -43,5 +43,5 @@ returns c =
     let none : length c.loop-appended.appended-iterator.a.rest.now ≡ 0 = elim c.in-None.ensures.steps [ inl x ↦ x.1.0 | inr y ↦ sym c.loop-appended.invariant.abreast ∙ y.1.0 ] in
     as_part
     (ap₂ (λ (ps qs : List ℕ). commas ps qs ++ (letter_place p q ++ (end ∷ []))) ep eq ∙ all_letters c.in-Some-Some.appended.now c.in-Some-Some.shaped.now p q end (omega (arith, a.1, s.1, c.requires.1)) ∙
-        ap₂ (λ (ps qs : List ℕ). or_hyphen (letter_places ps qs) ++ (end ∷ [])) (sym a.0) (sym s.0))
+    ap₂ (λ (ps qs : List ℕ). or_hyphen (letter_places ps qs) ++ (end ∷ [])) (sym a.0) (sym s.0))
     (and_then_law (all_put none c.loop-appended.invariant) c.letter-2.ensures)

@@ -1,10 +1,7 @@
 -- `lines::Line::spelled` meets its contract: the refusal's line, or the keys that the speller put in front and a newline behind them.
-use mathlib.Core.Path.{◌≡◌, ap, ◌∙◌}
-use mathlib.Core.List.{[], ◌∷◌, ◌++◌}
-use Prim.Native.Nat.{ℕ, ◌≤◌}
+use Prim.Native.Nat.{◌≤◌}
 use native.Mathlib.Omega.{arith}
-use lib.ListN.{length, take}
-use Rattle.rules.specs.Drill.{newline}
+use lib.ListN.{length}
 use Rattle.lines.specs.Appending.{most_in_line}
 use Rattle.lines.proofs.Columns.{as_part, from_start, keys_put}
 use Rattle.lines.proofs.Spelled.{text_small, refuses, spelled}

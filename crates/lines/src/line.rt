@@ -1,6 +1,7 @@
 // An answer line as it is made: each method writes behind what the line holds, and a column ends in a byte of its own.
 
 ghost use Rattle.std.specs.Prelude.{◌≤◌};
+ghost use Rattle.lines.specs.declared.line.TheConstants.{MOST};
 
 use rules::{Place, Refusal, Word, WriteAnswer};
 
@@ -15,7 +16,7 @@ const MOST: usize = 512;
 pub(crate) struct Line {
     text: [u8; MOST],
     at: usize,
-    ghost within: { at ≤ 512 },
+    ghost within: { at ≤ MOST },
 }
 
 impl Line {

@@ -1,6 +1,7 @@
 // A key list as it is put together: each method puts its keys behind those that the list holds.
 
 ghost use Rattle.std.specs.Prelude.{◌≤◌};
+ghost use Rattle.speller.specs.declared.key_list.TheConstants.{MOST};
 
 use super::{awaits_o, key_of_letter, shape_key, tone_key};
 use rules::{NO_TONE, PLAIN, Word};
@@ -12,7 +13,7 @@ const MOST: usize = 2 * Word::TEXT + 1;
 pub(crate) struct KeyList {
     keys: [u8; MOST],
     count: usize,
-    ghost within: { count ≤ 193 },
+    ghost within: { count ≤ MOST },
 }
 
 impl KeyList {

@@ -122,9 +122,10 @@ fn key_of_letter(x: u16) -> u8
 {
     let base = rules::base(x);
     if rules::is_capital(x) {
-        return base - 32;
+        base - 32
+    } else {
+        base
     }
-    base
 }
 
 // The shape or stroke key of a letter; 0 for a plain letter, which has none (`key_for` in the crate rules).
@@ -194,21 +195,15 @@ pub fn spell(mode: u8, text: &[u8], out: &mut [u8]) -> WriteAnswer
     }
     let mut letters = [0; Word::TEXT];
     let r = read(text, &mut letters);
-    let ReadSoFar {
-        at,
-        count,
-        tone,
-        ..
-    } = r;
-    if at < n {
-        return refused(6, at);
+    if r.at < n {
+        return refused(6, r.at);
     }
-    let word = &letters[..count];
+    let word = &letters[..r.count];
     let number = r.fault(word);
     if number != 0 {
         return refused(7, number as usize);
     }
     let mut keys = KeyList::new();
-    keys.standard(mode, word, tone);
+    keys.standard(mode, word, r.tone);
     output::write(keys.held(), out)
 }

@@ -1,5 +1,5 @@
 -- What the speller answers with room for a line: never refusal 4, a refusal whose numbers fit their columns, or at most 193 keys, two a byte of the text and one.
-use mathlib.Core.Path.{◌≡◌, refl, sym, ap, subst, ◌∙◌}
+use mathlib.Core.Path.{◌≡◌, refl, sym, ap, ◌∙◌}
 use mathlib.Core.Bool.{Bool, true, false, not, ◌&&◌, ◌||◌}
 use mathlib.Core.List.{List, [], ◌∷◌, ◌++◌}
 use mathlib.Core.Option.{Option, none, some}
@@ -7,7 +7,7 @@ use Prim.Native.Nat.{ℕ, zero, suc, ◌+◌, ◌*◌, ◌≤◌, ◌<◌}
 use native.Mathlib.Omega.{arith}
 use borrow.Author.Tests.{lt-ltb, le-ltb, ltb-true, ltb-false, leb-true}
 use lib.Dec.{T, eqb, leb, ltb, nltb→le, lit≤}
-use lib.ListN.{length, drop, set, length-append, length-drop}
+use lib.ListN.{length, take, drop, length-append, length-drop}
 use lib.Ieee.Fits.{and_l, and_r}
 use Rattle.rules.specs.Letters.{plain, no_tone}
 use Rattle.rules.specs.TheWord.{most_bytes, at_front}
@@ -24,18 +24,7 @@ use Rattle.rules.specs.declared.WriteAnswer.TheVariants.{Wrote, Refused}
 use Rattle.rules.proofs.Tests.{is_true}
 use Rattle.rules.proofs.StaysInRange.{read_front}
 use Rattle.rules.proofs.Refused.{refusal_none}
-use Rattle.lines.specs.Appending.{Appends, most_in_line}
-use Rattle.lines.proofs.Columns.{and_then_law, byte_put}
-
--- keys in the front of a text, and a newline behind them
-keys_line : (keys out : List ℕ) → length keys < length out → Appends out (set (at_front keys out) (length keys) newline) 0 (length keys + 1) (keys ++ (newline ∷ []))
-keys_line keys out h = and_then_law in_front (byte_put (at_front keys out) (length keys) newline (omega (arith, as_long)))
-  where
-    as_long : length (at_front keys out) ≡ length out
-    as_long = simp (length-append, length-drop) (omega (arith, h))
-
-    in_front : Appends out (at_front keys out) 0 (length keys) keys
-    in_front = record { moved = omega arith; within = omega (arith, as_long, h); long = as_long; front = read_front keys out (length keys) refl }
+use Rattle.lines.specs.Appending.{most_in_line}
 
 -- a text has no more letters than bytes, and a byte where no letter starts stands within it
 abbrev many : Reading → ℕ
@@ -177,7 +166,7 @@ module _ (m : ℕ) (text : List ℕ) where
     pub record Spells (n : ℕ) (after : List ℕ) : Type 0 where
       pub few : n ≤ 193
       pub inside : n < length after
-      pub line : Appends out (set after n newline) 0 (n + 1) (spelled_line m text)
+      pub line : take n after ++ (newline ∷ []) ≡ spelled_line m text
 
     module _ (r : WriteAnswer) (after : List ℕ) (a : r ≡ (spell m text out).answer) (o : after ≡ (spell m text out).output) where
       pub refuses : (x : Refusal) → r ≡ Refused x → Refuses x after
@@ -212,6 +201,6 @@ module _ (m : ℕ) (text : List ℕ) where
                 few = omega (arith, g, few_spelled e);
                 inside = omega (arith, g, k, ap length h, length-append keys (drop (length keys) out), length-drop (length keys) out);
                 line =
-                    subst (λ (l : List ℕ). Appends out (set after n newline) 0 (n + 1) l) (sym (ap (λ (p : Option Refusal). spelled_or p m text) e))
-                    (subst (λ (l : List ℕ). Appends out (set l n newline) 0 (n + 1) (keys ++ (newline ∷ []))) (sym h) (subst (λ (i : ℕ). Appends out (set (at_front keys out) i newline) 0 (i + 1) (keys ++ (newline ∷ []))) (sym g) (keys_line keys out k)));
+                    ap (λ (l : List ℕ). l ++ (newline ∷ [])) (ap (take n) h ∙ read_front keys out n (sym g)) ∙
+                    sym (ap (λ (p : Option Refusal). spelled_or p m text) e);
               }

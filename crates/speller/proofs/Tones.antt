@@ -78,6 +78,10 @@ none_carried (x ∷ ss) e = go (eqb x.tone no_tone) refl (none_carried ss) e
     go true k f h = f h
     go false k f h = absurd (eqb-false x.tone no_tone k h)
 
+-- what is counted of one letter more
+abbrev pub counted : ℕ → ReadSoFar → ReadSoFar
+counted l r = record { at = r.at + l; count = r.count + 1; tone = r.tone; place = r.place; twice = r.twice }
+
 -- the reading with one letter more, by the tone on it and the tone before
 module _ (r : ReadSoFar) (ss : List Sign) (s : Sign) (t l : ℕ) (held : r ≡ reading_of r.at ss) (e : t ≡ s.tone) where
   abbrev more : List Sign
@@ -86,7 +90,7 @@ module _ (r : ReadSoFar) (ss : List Sign) (s : Sign) (t l : ℕ) (held : r ≡ r
   count_more : r.count + 1 ≡ length more
   count_more = ap (λ (z : ReadSoFar). z.count + 1) held ∙ sym (length-append ss (s ∷ []))
 
-  pub untoned : t ≡ no_tone → record { at = r.at + l; count = r.count + 1; tone = r.tone; place = r.place; twice = r.twice } ≡ reading_of (r.at + l) more
+  pub untoned : t ≡ no_tone → counted l r ≡ reading_of (r.at + l) more
   untoned z =
       let tones = sym (still_tones s (sym e ∙ z) ss) in
       let place = ap (λ (x : ReadSoFar). x.place) held ∙ sym (still_place s (sym e ∙ z) ss) in
@@ -95,7 +99,7 @@ module _ (r : ReadSoFar) (ss : List Sign) (s : Sign) (t l : ℕ) (held : r ≡ r
       λ j. record { at = r.at + l; count = count_more j; tone = tone j; place = place j; twice = twice j }
 
   pub toned_again : (t ≡ no_tone → ⊥) → (r.tone ≡ no_tone → ⊥)
-      → record { at = r.at + l; count = r.count + 1; tone = r.tone; place = r.place; twice = true } ≡ reading_of (r.at + l) more
+      → counted l (record r { twice = true }) ≡ reading_of (r.at + l) more
   toned_again n h =
       let before : r.tone ≡ tone_in ss = ap (λ (x : ReadSoFar). x.tone) held in
       let some : (tone_in ss ≡ no_tone → ⊥) = λ z. h (before ∙ z) in
@@ -106,11 +110,11 @@ module _ (r : ReadSoFar) (ss : List Sign) (s : Sign) (t l : ℕ) (held : r ≡ r
       λ j. record { at = r.at + l; count = count_more j; tone = tone j; place = place j; twice = twice j }
 
   pub first_toned : (t ≡ no_tone → ⊥) → r.tone ≡ no_tone
-      → record { at = r.at + l; count = r.count + 1; tone = t; place = At r.count; twice = false } ≡ reading_of (r.at + l) more
+      → counted l (record r { tone = t; place = At r.count }) ≡ reading_of (r.at + l) more
   first_toned n h =
       let none : tones_in ss ≡ [] = none_carried ss (sym (ap (λ (x : ReadSoFar). x.tone) held) ∙ h) in
       let tones = ap (λ (ts : List ℕ). ts ++ (s.tone ∷ [])) (sym none) ∙ sym (one_tone_more s (λ z. n (e ∙ z)) ss) in
       let place = ap (λ (x : ReadSoFar). At x.count) held ∙ sym (first_place s (λ z. n (e ∙ z)) ss none) in
       let tone = e ∙ ap first_tone tones in
-      let twice = ap two_tones tones in
+      let twice = ap (λ (x : ReadSoFar). x.twice) held ∙ ap two_tones none ∙ ap two_tones tones in
       λ j. record { at = r.at + l; count = count_more j; tone = tone j; place = place j; twice = twice j }

@@ -1,9 +1,9 @@
--- What the code holds of a text that is read: the reading beside the letters, and the keys from a letter on.
-use Rattle.std.specs.Prelude.{◌≡◌, Bool, true, false, ◌&&◌, List, [], ◌∷◌, map, ℕ, suc, ◌≤◌, ◌<◌, T, eqb, ltb, length, take, drop}
+-- What the code holds of a text that is read: the reading beside the letters.
+use Rattle.std.specs.Prelude.{◌≡◌, Bool, true, false, ◌&&◌, List, [], ◌∷◌, map, ℕ, suc, ◌≤◌, ◌<◌, T, eqb, ltb, length, take}
 use Rattle.rules.specs.Letters.{Letters, no_tone}
 use Rattle.rules.specs.TheWord.{letter}
 use Rattle.rules.specs.CodePoints.{Sign}
-use Rattle.rules.specs.Speller.{read, stuck_at, reading, letters_in, tones_in, tone_in, two_tones, awaits_o, letter_keys}
+use Rattle.rules.specs.Speller.{read, stuck_at, reading, letters_in, tones_in, tone_in, two_tones}
 use Rattle.rules.specs.declared.Place.{Place}
 use Rattle.rules.specs.declared.Place.TheVariants.{At, Nowhere}
 use Rattle.rules.specs.declared.WriteAnswer.{WriteAnswer}
@@ -48,14 +48,6 @@ pub record ReadInto (text ns : List ℕ) (r : ReadSoFar) : Type 0 where
   pub so_far : SoFar text ns r
   pub stuck : r.at < length text → read text ≡ stuck_at r.at
   pub whole : length text ≤ r.at → read text ≡ reading so_far.signs
-
--- the keys of the letters from a place on, and whether the letter there is a ư before an ơ
-abbrev pub keys_from : ℕ → ℕ → List ℕ → List ℕ
-keys_from mode i ns = letter_keys mode (map letter (drop i ns))
-
-abbrev pub first_awaits_o : Letters → Bool
-first_awaits_o [] = false
-first_awaits_o (x ∷ xs) = awaits_o x xs
 
 abbrev pub refused_write : ℕ → ℕ → WriteAnswer
 refused_write n v = Refused (record { number = n; value = v })

@@ -1,4 +1,5 @@
 -- The ruling by its tests, in the order in which the code asks them, and what the code makes of a word in range.
+use Rattle.std.specs.Prelude.{Ok, Err}
 use mathlib.Core.Path.{◌≡◌, refl, sym, ap, subst, ◌∙◌}
 use mathlib.Core.Bool.{Bool, true, false, not, ◌&&◌}
 use mathlib.Core.List.{List, map}
@@ -16,10 +17,6 @@ use Rattle.rules.specs.Refusals.{all, is_mode, same_bytes, allowed_before, out_o
 use Rattle.rules.specs.WhatComesBack.{typed, type_all, Written, show, decision_answer}
 use Rattle.rules.specs.declared.Word.{Word}
 use Rattle.rules.specs.declared.Refusal.{Refusal}
-use Rattle.rules.specs.declared.TypeAnswer.TheVariants.{AllTyped}
-use Rattle.rules.specs.declared.TypeAnswer.TheVariants.{Refused as TypeRefused}
-use Rattle.rules.specs.declared.WriteAnswer.TheVariants.{Wrote}
-use Rattle.rules.specs.declared.DecisionAnswer.TheVariants.{Decided}
 use Rattle.rules.specs.declared.Decision.{Decision}
 use Rattle.rules.specs.declared.Decision.TheVariants.{Keep as Kept, Restore as Restored}
 use Rattle.rules.proofs.NotRefused.{so_long, its_front, its_decision, typed_word}
@@ -46,16 +43,16 @@ module _ (w : Word) where
     lent = take (w.count - 0) w.letters
 
     module _ (n : ℕ) (old buffer : List ℕ) (room : most_bytes ≤ length old) (many : n ≡ length (room_text lent w.tone old)) (made : buffer ≡ at_front (room_text lent w.tone old) old) where
-      shows : record { answer = Wrote n; output = buffer } ≡ show w old
+      shows : record { answer = Ok n; output = buffer } ≡ show w old
       shows =
           let few : length lent ≤ most_keys = simp length-take (omega (arith, few_letters w range)) in
           sym (made_there lent w.tone old few n room many buffer made) ∙ shown_so w old refl range
 
       pub text_long : n ≡ length its_text
-      text_long = so_long w range old room (Wrote n) (ap (λ (x : Written). x.answer) shows) n refl
+      text_long = so_long w range old room (Ok n) (ap (λ (x : Written). x.answer) shows) n refl
 
       pub text_made : take (n - 0) buffer ≡ its_text
-      text_made = its_front w range old room (Wrote n) (ap (λ (x : Written). x.answer) shows) n refl buffer (ap (λ (x : Written). x.output) shows)
+      text_made = its_front w range old room (Ok n) (ap (λ (x : Written). x.answer) shows) n refl buffer (ap (λ (x : Written). x.output) shows)
 
       -- a text that is compared with what is made is compared with the word's
       pub compared : (text : List ℕ) {answer : Bool} → answer ≡ same_bytes text (take (n - 0) buffer) → same_bytes text its_text ≡ answer
@@ -65,7 +62,7 @@ module _ (w : Word) where
     decide = decided_by (eqb w.acted 0 && eqb w.undone 0) w.closed (map letter lent)
 
     pub decides : (v : ℕ) (d : Decision) → v ≡ verdict (map letter lent) w.tone → d ≡ decide v → d ≡ decision (word_of w)
-    decides v d e f = its_decision w range (decision_answer w) refl d (word_decided w range ∙ sym (ap Decided (f ∙ ap decide e)))
+    decides v d e f = its_decision w range (decision_answer w) refl d (word_decided w range ∙ sym (ap Ok (f ∙ ap decide e)))
 
   -- the ruling on a text for it
   module _ (text : List ℕ) where
@@ -99,37 +96,37 @@ module _ (m : ℕ) (ks text : List ℕ) where
     unfolding ruling_of refusal
     no_key e = simp (mode, le-ltb most_keys (0 + length ks) (omega arith), le-ltb most_bytes (length text) short, e)
 
-    typed_no_key : all (is_key m) ks ≡ false → (type_all m ks).answer ≡ TypeRefused (record { number = 3; value = 0 + allowed_before m ks })
+    typed_no_key : all (is_key m) ks ≡ false → (type_all m ks).answer ≡ Err (record { number = 3; value = 0 + allowed_before m ks })
     unfolding type_all refusal
     typed_no_key e = simp (mode, le-ltb most_keys (0 + length ks) (omega arith), e)
 
-    all_keys : all (is_key m) ks ≡ true → (type_all m ks).answer ≡ AllTyped
+    all_keys : all (is_key m) ks ≡ true → (type_all m ks).answer ≡ Ok tt
     unfolding type_all refusal
     all_keys e = simp (mode, le-ltb most_keys (0 + length ks) (omega arith), e)
 
     -- typing is refused where commit is, with the same numbers
-    pub not_typed : (x : Refusal) → (type_all m ks).answer ≡ TypeRefused x → Refused x ≡ ruling_of m ks text
+    pub not_typed : (x : Refusal) → (type_all m ks).answer ≡ Err x → Refused x ≡ ruling_of m ks text
     not_typed x e = go (all (is_key m) ks) refl
       where
         go : (b : Bool) → all (is_key m) ks ≡ b → Refused x ≡ ruling_of m ks text
         go true d =
-            let f : AllTyped ≡ TypeRefused x = sym (all_keys d) ∙ e in
+            let f : (Ok tt) ≡ Err x = sym (all_keys d) ∙ e in
             let z : ◌≡◌ {A = ℕ} 0 1 = cc in
             absurd (omega arith)
         go false d =
-            let f : TypeRefused x ≡ TypeRefused (record { number = 3; value = 0 + allowed_before m ks }) = sym e ∙ typed_no_key d in
+            let f : Err x ≡ Err (record { number = 3; value = 0 + allowed_before m ks }) = sym e ∙ typed_no_key d in
             let g : x ≡ record { number = 3; value = 0 + allowed_before m ks } = cc in
             ap (λ (y : Refusal). Refused y) g ∙ no_key d
 
     -- past the keys: the ruling is that on the word that they make
-    module _ (a : (type_all m ks).answer ≡ AllTyped) where
+    module _ (a : (type_all m ks).answer ≡ (Ok tt)) where
       keys_typed : all (is_key m) ks ≡ true
       keys_typed = go (all (is_key m) ks) refl
         where
           go : (b : Bool) → all (is_key m) ks ≡ b → b ≡ true
           go true d = refl
           go false d =
-              let f : AllTyped ≡ TypeRefused (record { number = 3; value = 0 + allowed_before m ks }) = sym a ∙ typed_no_key d in
+              let f : (Ok tt) ≡ Err (record { number = 3; value = 0 + allowed_before m ks }) = sym a ∙ typed_no_key d in
               let z : ◌≡◌ {A = ℕ} 0 1 = cc in
               absurd (omega arith)
 

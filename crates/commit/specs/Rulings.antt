@@ -1,6 +1,5 @@
 -- What commit and its question both look at: the refusal, or else the decision, with the length of the text that is kept.
-use Rattle.std.specs.Prelude.{Bool, true, false, List, ℕ, length}
-use Rattle.std.proofs.Math.Option.{Option, none, some}
+use Rattle.std.specs.Prelude.{Bool, true, false, List, ℕ, length, Option, Some, None}
 use Rattle.rules.specs.Decision.{decision}
 use Rattle.rules.specs.TheWord.{Typed}
 use Rattle.rules.specs.CodePoints.{shown}
@@ -25,8 +24,8 @@ abbrev pub judged : Typed → List ℕ → Ruling
 judged z text = judged_if (same_bytes text (shown z.state)) z text
 
 abbrev pub ruling_or : Option Refusal → ℕ → List ℕ → List ℕ → Ruling
-ruling_or none m ks text = decided (decision (typed m ks)) text
-ruling_or (some x) m ks text = Refused x
+ruling_or None m ks text = decided (decision (typed m ks)) text
+ruling_or (Some x) m ks text = Refused x
 
 unfoldable pub ruling_of : ℕ → List ℕ → List ℕ → Ruling
 ruling_of m ks text = ruling_or (refusal (commit_call m ks text)) m ks text

@@ -82,7 +82,7 @@ pub fn rule(mode: u8, keys: &[u8], text: &[u8]) -> Ruling
     }
     let all = word::type_all(mode, keys);
     let answer = all.answer;
-    if let TypeAnswer::Refused(refusal) = answer {
+    if let Err(refusal) = answer {
         return Ruling::Refused(refusal);
     }
     judge(all.word, text)
@@ -100,12 +100,12 @@ pub fn commit<'a>(mode: u8, keys: &'a [u8], text: &'a [u8]) -> &'a [u8]
 }
 
 // Is commit refused on the same input, and how. Refusals: 1, 2 (32), 2 (96), 3, 5.
-pub fn answer(mode: u8, keys: &[u8], text: &[u8]) -> CommitAnswer
+pub fn answer(mode: u8, keys: &[u8], text: &[u8]) -> Result<(), Refusal>
     ensures { result ≡ commit_answer mode keys.now text.now }
 {
     match rule(mode, keys, text) {
-        Ruling::Keep(_) => CommitAnswer::Granted,
-        Ruling::Restore => CommitAnswer::Granted,
-        Ruling::Refused(refusal) => CommitAnswer::Refused(refusal),
+        Ruling::Keep(_) => Ok(()),
+        Ruling::Restore => Ok(()),
+        Ruling::Refused(refusal) => Err(refusal),
     }
 }

@@ -1,4 +1,5 @@
 -- A key typed where the lent bytes lie, and the text of the new word made in an output with room for any: what typing and showing comes to.
+use Rattle.std.specs.Prelude.{Ok}
 use mathlib.Core.Path.{◌≡◌, refl, sym, ap, ap₂, ◌∙◌}
 use mathlib.Core.List.{List}
 use Prim.Native.Nat.{ℕ, ◌-◌, ◌≤◌}
@@ -8,8 +9,6 @@ use Rattle.rules.specs.TheWord.{at_front, most_keys, most_bytes}
 use Rattle.rules.specs.WhatComesBack.{Written, step}
 use Rattle.rules.specs.declared.Word.{Word}
 use Rattle.rules.specs.declared.Outcome.{Outcome}
-use Rattle.rules.specs.declared.StepAnswer.TheVariants.{Did as Stepped}
-use Rattle.rules.specs.declared.WriteAnswer.TheVariants.{Wrote}
 use Rattle.rules.proofs.Range.{few_letters}
 use Rattle.show.specs.Filling.{room_text}
 use Rattle.show.proofs.Answers.{made_there}
@@ -23,7 +22,7 @@ use Rattle.press.specs.declared.ShownAnswer.TheVariants.{Did}
 use Rattle.press.proofs.Shows.{Then, did_so}
 
 -- the lent bytes once a key was taken: what is read of them is the new word
-module _ (lent : List ℕ) (key : ℕ) (out : List ℕ) {o : Outcome} (d : (step_at lent key).answer ≡ Stepped o) where
+module _ (lent : List ℕ) (key : ℕ) (out : List ℕ) {o : Outcome} (d : (step_at lent key).answer ≡ Ok o) where
   abbrev w : Word
   w = (as_record lent).word
 
@@ -59,4 +58,4 @@ module _ (lent : List ℕ) (key : ℕ) (out : List ℕ) {o : Outcome} (d : (step
         (record { answer = Did o n; word = new } ≡ (step_and_show w key out).result) × (after ≡ (step_and_show w key out).output)
     with_room {n} {after} h many b =
         let t = made_there (take (new.count - 0) new.letters) new.tone out few n h (many ∙ ap (λ (l : List ℕ). length l) same_text) after (b ∙ ap (λ (l : List ℕ). at_front l out) same_text) in
-        (so.result (Wrote n) (ap (λ (x : Written). x.answer) t), sym (ap (λ (x : Written). x.output) t) ∙ so.output)
+        (so.result (Ok n) (ap (λ (x : Written). x.answer) t), sym (ap (λ (x : Written). x.output) t) ∙ so.output)

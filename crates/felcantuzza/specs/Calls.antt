@@ -1,6 +1,5 @@
 -- What each call of the box says, from the rules' whole answers and their numbers, and the lent bytes when it returns.
-use Rattle.std.specs.Prelude.{Bool, true, false, List, [], ◌∷◌, ℕ, ◌+◌, ◌*◌}
-use Rattle.std.proofs.Math.Option.{Option, none, some}
+use Rattle.std.specs.Prelude.{Bool, true, false, List, [], ◌∷◌, ℕ, ◌+◌, ◌*◌, Option, Some, None}
 use Rattle.rules.specs.AnswersInNumbers.{Says, refused, answered, refusing, outcome_numbers, decision_number, start_says, step_says, write_says, place_says, verdict_says, decision_says}
 use Rattle.rules.specs.Refusals.{refusal}
 use Rattle.rules.specs.Decision as Decided
@@ -98,8 +97,8 @@ decision lent = of_record (as_record lent).is_record (decision_says (Rules.decis
 
 -- commit and its question in one: the decision on the word that the keys make
 abbrev pub commit_or : Option Refusal → Decision → Says
-commit_or none d = answered (decision_number d ∷ [])
-commit_or (some r) d = refusing r
+commit_or None d = answered (decision_number d ∷ [])
+commit_or (Some r) d = refusing r
 
 unfoldable pub commit : ℕ → List ℕ → List ℕ → Says
 commit mode keys text = commit_or (refusal (Rules.commit_call mode keys text)) (Decided.decision (Rules.typed mode keys))

@@ -125,7 +125,7 @@ fn pass(
 // A last line without a newline.
 fn end(rt: &HostRuntime, state: Begun, out: &mut [u8]) -> io::Result<()> {
     let program = state.program;
-    let WriteAnswer::Wrote(n) = stream::finish(state, out) else {
+    let Ok(n) = stream::finish(state, out) else {
         return Ok(());
     };
     written(rt, program, &out[0..n])
@@ -163,7 +163,7 @@ fn failed(e: io::Error) -> ExitCode {
 pub fn run(rt: &HostRuntime, program: Program) -> ExitCode {
     let mut block = [0; BLOCK];
     let mut out = [0; OUTPUT];
-    let WriteAnswer::Wrote(n) = stream::header(program, &mut out) else {
+    let Ok(n) = stream::header(program, &mut out) else {
         return ExitCode::SUCCESS;
     };
     if let Err(e) = written(rt, program, &out[0..n]) {

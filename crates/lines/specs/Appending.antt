@@ -1,9 +1,7 @@
 -- What is said of a function that writes a part of an answer line behind what is already written, and of the sizes that it can meet.
-use Rattle.std.specs.Prelude.{◌≡◌, List, [], ◌∷◌, ◌++◌, ℕ, ◌+◌, ◌≤◌, ◌<◌, length, take}
+use Rattle.std.specs.Prelude.{◌≡◌, List, [], ◌∷◌, ◌++◌, ℕ, ◌+◌, ◌≤◌, ◌<◌, length, take, Option, Some, None}
 use Prim.Native.Char.{code}
 use Rattle.rules.specs.Drill.{joined}
-use Rattle.rules.specs.declared.Place.{Place}
-use Rattle.rules.specs.declared.Place.TheVariants.{At, Nowhere}
 
 -- the buffer before and after, the place where the part begins and the place behind it
 pub record Appends (before after : List ℕ) (at next : ℕ) (part : List ℕ) : Type 0 where
@@ -24,6 +22,6 @@ abbrev pub most_a_byte : ℕ
 most_a_byte = 12
 
 -- a place that fits a byte
-abbrev pub SmallPlace : Place → Type 0
-SmallPlace (At n) = n < 256
-SmallPlace Nowhere = Unit {0}
+abbrev pub SmallPlace : Option ℕ → Type 0
+SmallPlace (Some n) = n < 256
+SmallPlace None = Unit {0}

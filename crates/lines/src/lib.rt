@@ -89,11 +89,11 @@ fn commit_column(
     }
 }
 
-fn place_column(text: &mut [u8], at: usize, place: Place, end: u8) -> usize
+fn place_column(text: &mut [u8], at: usize, place: Option<usize>, end: u8) -> usize
     requires { (at + 2 < length text.old) × SmallPlace place }
     ensures { Appends text.old text.new at result (place_column_of place ++ (end ∷ [])) }
 {
-    let Place::At(n) = place else {
+    let Some(n) = place else {
         return byte_column(text, at, b'-', end);
     };
     number_column(text, at, n as u8, end)
@@ -115,7 +115,7 @@ fn six_columns(
     keys: &[u8],
     verdict: u8,
     tone: u8,
-    place: Place,
+    place: Option<usize>,
     decision: Decision,
     end: u8,
 ) -> usize
@@ -248,7 +248,7 @@ fn keys_line(text: &mut [u8], mode: u8, keys: &[u8], keyed: bool) -> usize
 {
     let all = word::type_all(mode, keys);
     let answer = all.answer;
-    if let TypeAnswer::Refused(refusal) = answer {
+    if let Err(refusal) = answer {
         return refused_line(text, refusal);
     }
     word_line(text, all.word, keyed)
@@ -261,8 +261,8 @@ fn spelled_line(text: &mut [u8], mode: u8, syllable: &[u8]) -> usize
 {
     let answer = speller::spell(mode, syllable, text);
     match answer {
-        WriteAnswer::Refused(refusal) => refused_line(text, refusal),
-        WriteAnswer::Wrote(n) => {
+        Err(refusal) => refused_line(text, refusal),
+        Ok(n) => {
             text[n] = NEWLINE;
             n + 1
         }
@@ -313,7 +313,7 @@ fn line_text(program: Program, text: &mut [u8], line: &[u8]) -> usize
 }
 
 // The answer to a line, its newline included, at the front of the output. Refusals: 4 with the bytes needed; the output is then as it was.
-pub fn answer_line(program: Program, line: &[u8], out: &mut [u8]) -> WriteAnswer
+pub fn answer_line(program: Program, line: &[u8], out: &mut [u8]) -> Result<usize, Refusal>
     ensures { (result ≡ (line_answer program line.now out.old).answer) × (out.new ≡ (line_answer program line.now out.old).output) }
 {
     let mut text = [0; 512];

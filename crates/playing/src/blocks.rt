@@ -12,7 +12,7 @@ use std::io::Read as _;
 const STEP: usize = 10;
 
 // The mode, in front of all steps. Where the block shows the front of a recording with enough bytes for it, it is that of the whole recording.
-pub(crate) fn first_mode(block: &[u8], window: Window) -> BeginAnswer
+pub(crate) fn first_mode(block: &[u8], window: Window) -> Result<Begun, Refusal>
     ensures { (s rest : List ℕ) → IsPart s 0 (shown_in window block.now) rest → Enough 0 (shown_in window block.now) rest → begin_of s ≡ result }
 {
     let n = least(window.end, block.len());

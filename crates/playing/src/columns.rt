@@ -172,7 +172,7 @@ pub(crate) fn put_shown(
     w: Word,
 ) -> Waiting {
     let mut text = [0; Word::TEXT];
-    let WriteAnswer::Wrote(n) = show::show(w, &mut text) else {
+    let Ok(n) = show::show(w, &mut text) else {
         return waiting;
     };
     let a = put(rt, out, waiting, &text[0..n]);

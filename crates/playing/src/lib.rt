@@ -111,7 +111,7 @@ fn commit(rt: &HostRuntime, out: &mut [u8; OUTPUT], p: Play, keys: &[u8; Word::K
     let held = &keys[..];
     let mut line = [0; replay::LINE];
     let answer = replay::commit_word(progress.mode, &held[0..n], &mut line);
-    let WordAnswer::Committed(done) = answer else {
+    let Ok(done) = answer else {
         return p;
     };
     let decision = done.decision;
@@ -206,8 +206,8 @@ fn begin(rt: &HostRuntime, out: &mut [u8; OUTPUT], block: &[u8], p: Play) -> Nex
     let window = p.window;
     let answer = blocks::first_mode(block, window);
     match answer {
-        BeginAnswer::Begins(b) => Next::More(at_place(p, b.at, b.progress)),
-        BeginAnswer::Refused(r) => Next::Done(columns::put_refused(
+        Ok(b) => Next::More(at_place(p, b.at, b.progress)),
+        Err(r) => Next::Done(columns::put_refused(
             rt,
             out,
             p.waiting,
@@ -229,13 +229,13 @@ fn play_step(
     let s = blocks::next_step(block, window, p.progress);
     let press = s.press;
     match press {
-        Press::Pressed(x) => Next::More(at_place(
+        Ok(Some(x)) => Next::More(at_place(
             played(rt, out, p, keys, word, x),
             s.at,
             s.progress,
         )),
-        Press::End => Next::Done(end(rt, out, p, keys)),
-        Press::Refused(r) => Next::Done(columns::put_refused(rt, out, p.waiting, window.start, r)),
+        Ok(None) => Next::Done(end(rt, out, p, keys)),
+        Err(r) => Next::Done(columns::put_refused(rt, out, p.waiting, window.start, r)),
     }
 }
 

@@ -12,7 +12,7 @@ fn type_key(
     x: KeyPress,
 ) -> Waiting {
     let answer = step::step_at(word, x.key);
-    let StepAnswer::Did(outcome) = answer else {
+    let Ok(outcome) = answer else {
         return waiting;
     };
     let key = [x.key];

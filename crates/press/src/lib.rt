@@ -27,22 +27,22 @@ pub fn press(w: Word, key: u8, out: &mut [u8]) -> StepShown
     let stepped = step::step(w, key);
     let answer = stepped.answer;
     match answer {
-        StepAnswer::Did(outcome) => {
+        Ok(outcome) => {
             let next = stepped.word;
             let letters = next.letters;
             let count = next.count as usize;
             match show::text(&letters[0..count], next.tone, out) {
-                WriteAnswer::Wrote(bytes) => StepShown {
+                Ok(bytes) => StepShown {
                     answer: ShownAnswer::Did(outcome, bytes),
                     word: next,
                 },
-                WriteAnswer::Refused(refusal) => StepShown {
+                Err(refusal) => StepShown {
                     answer: ShownAnswer::Refused(refusal),
                     word: w,
                 },
             }
         }
-        StepAnswer::Refused(refusal) => StepShown {
+        Err(refusal) => StepShown {
             answer: ShownAnswer::Refused(refusal),
             word: w,
         },

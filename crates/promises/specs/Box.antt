@@ -1,6 +1,5 @@
 -- Demand 1 for the calls of the box, of whatever their contracts allow: the number returned, the value and the lent bytes. How a record lies in 169 bytes is said in layout/specs/Places.antt, how the values of an answer are one number in felcantuzza/specs/Calls.antt.
-use Rattle.std.specs.Prelude.{◌≡◌, Bool, true, not, List, [], ◌∷◌, ℕ, T, length}
-use Rattle.std.proofs.Math.Option.{none, some}
+use Rattle.std.specs.Prelude.{◌≡◌, Bool, true, not, List, [], ◌∷◌, ℕ, T, length, Some, None}
 use contract.Lifetimes.{Lfts}
 use denote.Triple.Entry.{Args}
 use denote.Triple.Clauses.{AtExit}
@@ -143,11 +142,11 @@ is_record lent = (as_record lent).is_record
 abbrev pub press_call : Word → ℕ → List ℕ → Call
 press_call w k out =
     record {
-      record? = some w;
-      mode? = none;
-      keys? = some (record { mode = w.mode; already = w.typed; bytes = k ∷ [] });
-      text? = none;
-      room? = some (record { needed = length (shown (type (word_of w) k).state); there = length out });
+      record? = Some w;
+      mode? = None;
+      keys? = Some (record { mode = w.mode; already = w.typed; bytes = k ∷ [] });
+      text? = None;
+      room? = Some (record { needed = length (shown (type (word_of w) k).state); there = length out });
     }
 
 -- Each call returns 0 and its value, or the refusal's number and value; after a refusal every lent byte is as it was.

@@ -21,7 +21,7 @@ pub fn new<'a>(recording: &'a [u8]) -> Reader<'a>
 }
 
 // The mode in front of the recording, wherever the reader stands. Refusals: 10, 1, at place 0.
-pub fn begin<'a>(r: Reader<'a>) -> BeginAnswer
+pub fn begin<'a>(r: Reader<'a>) -> Result<Begun, Refusal>
     ensures { result ≡ begin_of r.entry.recording.now }
 {
     recording::begin(r.recording)

@@ -316,7 +316,7 @@ fn write(rt: &HostRuntime, d: Drill, presses: &[u64; MOST], lines: &[u64; MOST])
     let mut out = [0; ROOM];
     let answer = recording::write(d.mode, &all[0..n], &mut out);
     match answer {
-        WriteAnswer::Wrote(written) => {
+        Ok(written) => {
             let Err(e) = rt.stdout().write_all(&out[0..written]) else {
                 return ExitCode::SUCCESS;
             };
@@ -326,7 +326,7 @@ fn write(rt: &HostRuntime, d: Drill, presses: &[u64; MOST], lines: &[u64; MOST])
             say(rt, b"record: cannot write\n");
             ExitCode::FAILURE
         }
-        WriteAnswer::Refused(r) => {
+        Err(r) => {
             say_refused(rt, r, lines);
             ExitCode::SUCCESS
         }

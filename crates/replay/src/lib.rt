@@ -9,7 +9,6 @@ ghost use Rattle.rules.specs.Refusals.{all, is_mode, out_of_range};
 ghost use Rattle.rules.specs.WhatComesBack.{typed};
 ghost use Rattle.show.specs.Filling.{room_text};
 ghost use Rattle.recording.specs.Recordings.{is_space, begin};
-ghost use Rattle.recording.specs.declared.BeginAnswer.TheVariants.{Begins};
 ghost use Rattle.replay.specs.Replays.{if_kept as if_kept_of, if_restored as if_restored_of, committed_line, nothing, done_of, word_replayed, refused_replay, replayed};
 ghost use Rattle.replay.specs.Passes.{total_of, throughout, passage_of, LinesPut, with_done, Fits, FitsKeys, line_at, some_keys, total_if, keys_unless, output_if, found_of};
 
@@ -30,7 +29,7 @@ pub struct Summary {
 
 #[derive(Clone, Copy)]
 pub struct ReplayAnswer {
-    pub answer: WriteAnswer,
+    pub answer: Result<usize, Refusal>,
     pub summary: Summary,
 }
 
@@ -125,15 +124,15 @@ fn line_of(w: Word, line: &mut [u8; LINE]) -> WordDone
 }
 
 // One word typed and committed: its line at the front of `line`, a newline behind it. Refusals: 1, 2, 3; the line is then as it was.
-pub fn commit_word(mode: u8, keys: &[u8], line: &mut [u8; LINE]) -> WordAnswer
+pub fn commit_word(mode: u8, keys: &[u8], line: &mut [u8; LINE]) -> Result<WordDone, Refusal>
     ensures { (result ≡ (word_replayed mode keys.now line.old).answer) × (line.new ≡ (word_replayed mode keys.now line.old).line) }
 {
     let all = word::type_all(mode, keys);
     let answer = all.answer;
-    if let TypeAnswer::Refused(refusal) = answer {
-        return WordAnswer::Refused(refusal);
+    if let Err(refusal) = answer {
+        return Err(refusal);
     }
-    WordAnswer::Committed(line_of(all.word, line))
+    Ok(line_of(all.word, line))
 }
 
 fn nothing_yet() -> Total
@@ -261,8 +260,8 @@ fn add_last(mode: u8, keys: &[u8], total: Total, out: &mut [u8]) -> Total
 }
 
 // All of a recording behind its mode, each line put where there is room for it.
-fn pass(recording: &[u8], begun: Begun, out: &mut [u8]) -> Passage
-    requires { begin recording.now ≡ Begins begun }
+fn pass(recording: &[u8], begun: Begun, out: &mut [u8]) -> Result<Found, Refusal>
+    requires { begin recording.now ≡ Ok begun }
     ensures { (result ≡ passage_of (throughout recording.now begun)) × LinesPut (throughout recording.now begun) out.old out.new }
 {
     let mut at = begun.at;
@@ -273,7 +272,7 @@ fn pass(recording: &[u8], begun: Begun, out: &mut [u8]) -> Passage
         let step = recording::step_at(recording, at, progress);
         let met = step.press;
         match met {
-            Press::Pressed(x) => {
+            Ok(Some(x)) => {
                 total = press(
                     progress.mode,
                     &mut keys,
@@ -285,24 +284,24 @@ fn pass(recording: &[u8], begun: Begun, out: &mut [u8]) -> Passage
                 at = step.at;
                 progress = step.progress;
             }
-            Press::End => {
+            Ok(None) => {
                 break;
             }
-            Press::Refused(refusal) => {
-                return Passage::Broken(refusal);
+            Err(refusal) => {
+                return Err(refusal);
             }
         }
     }
     let n = progress.in_word;
     total = add_last(progress.mode, &keys[0..n], total, out);
-    Passage::Passed(summed(total, progress.milliseconds))
+    Ok(summed(total, progress.milliseconds))
 }
 
 fn refused(refusal: Refusal) -> ReplayAnswer
     ensures { result ≡ (refused_replay refusal []).result }
 {
     ReplayAnswer {
-        answer: WriteAnswer::Refused(refusal),
+        answer: Err(refusal),
         summary: Summary {
             words: 0,
             kept: 0,
@@ -317,13 +316,13 @@ fn refused(refusal: Refusal) -> ReplayAnswer
 
 // The first pass writes nothing: it finds what is refused, the bytes needed and the summary. Only then is the output touched.
 fn replay_from(recording: &[u8], begun: Begun, out: &mut [u8]) -> ReplayAnswer
-    requires { begin recording.now ≡ Begins begun }
+    requires { begin recording.now ≡ Ok begun }
     ensures { (result ≡ (replayed recording.now out.old).result) × (out.new ≡ (replayed recording.now out.old).output) }
 {
     let first = pass(recording, begun, &mut out[0..0]);
     match first {
-        Passage::Broken(refusal) => refused(refusal),
-        Passage::Passed(found) => {
+        Err(refusal) => refused(refusal),
+        Ok(found) => {
             let needed = found.written;
             if out.len() < needed {
                 return refused(Refusal {
@@ -334,7 +333,7 @@ fn replay_from(recording: &[u8], begun: Begun, out: &mut [u8]) -> ReplayAnswer
             pass(recording, begun, out);
             let summary = found.summary;
             ReplayAnswer {
-                answer: WriteAnswer::Wrote(needed),
+                answer: Ok(needed),
                 summary: summary,
             }
         }
@@ -348,7 +347,7 @@ pub fn replay(recording: &[u8], out: &mut [u8]) -> ReplayAnswer
 {
     let mode = recording::begin(recording);
     match mode {
-        BeginAnswer::Refused(refusal) => refused(refusal),
-        BeginAnswer::Begins(begun) => replay_from(recording, begun, out),
+        Err(refusal) => refused(refusal),
+        Ok(begun) => replay_from(recording, begun, out),
     }
 }

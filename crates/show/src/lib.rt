@@ -68,7 +68,7 @@ fn toned(letters: &[u16], tone: u8) -> usize
         return n;
     }
     let place = parts::tone_place(letters, tone);
-    let Place::At(at) = place else {
+    let Some(at) = place else {
         return n;
     };
     at
@@ -77,7 +77,7 @@ fn toned(letters: &[u16], tone: u8) -> usize
 // The bytes of the letters, with the tone on the one at its place, at the front of the text; how many they are.
 fn fill(text: &mut [u8], letters: &[u16], toned: usize, tone: u8) -> usize
     requires { 3 * length letters.now ≤ length text.old }
-    ensures { (result ≡ length (text_from (Place.At toned) tone 0 letters.now)) × (text.new ≡ at_front (text_from (Place.At toned) tone 0 letters.now) text.old) }
+    ensures { (result ≡ length (text_from (Some toned) tone 0 letters.now)) × (text.new ≡ at_front (text_from (Some toned) tone 0 letters.now) text.old) }
 {
     let mut at = 0;
     let mut i = 0;
@@ -104,18 +104,18 @@ pub fn in_room(letters: &[u16], tone: u8, out: &mut [u8]) -> usize
 
 // The text of letters with the tone on the one at its place, at the front of the output. A number that is no letter shows nothing.
 // Refusals: 2 with 32 where there are more than 32 letters, then 4 with the bytes needed; the output is then as it was.
-pub fn text(letters: &[u16], tone: u8, out: &mut [u8]) -> WriteAnswer
+pub fn text(letters: &[u16], tone: u8, out: &mut [u8]) -> Result<usize, Refusal>
     ensures { (result ≡ (text_out letters.now tone out.old).answer) × (out.new ≡ (text_out letters.now tone out.old).output) }
 {
     if Word::KEYS < letters.len() {
-        return WriteAnswer::Refused(Refusal {
+        return Err(Refusal {
             number: 2,
             value: Word::KEYS,
         });
     }
     // With room for any text it is made where it is to stand; else it is made first, and its length then known.
     if Word::TEXT <= out.len() {
-        return WriteAnswer::Wrote(in_room(letters, tone, out));
+        return Ok(in_room(letters, tone, out));
     }
     let mut made = [0; Word::TEXT];
     let needed = in_room(letters, tone, &mut made);
@@ -132,11 +132,11 @@ pub fn show_in(
     mode: u8,
     n: Numbers,
     out: &mut [u8],
-) -> WriteAnswer
+) -> Result<usize, Refusal>
     ensures { (result ≡ (show_of (word_in mode letters.now appended_by.now shaped_by.now keys.now toned_by n) out.old).answer) × (out.new ≡ (show_of (word_in mode letters.now appended_by.now shaped_by.now keys.now toned_by n) out.old).output) }
 {
     if records::lent_out_of_range(letters, appended_by, shaped_by, keys, toned_by, mode, n) {
-        return WriteAnswer::Refused(Refusal {
+        return Err(Refusal {
             number: 8,
             value: 0,
         });
@@ -147,7 +147,7 @@ pub fn show_in(
 }
 
 // The same of a record. Its arrays are lent.
-pub fn show(w: Word, out: &mut [u8]) -> WriteAnswer
+pub fn show(w: Word, out: &mut [u8]) -> Result<usize, Refusal>
     ensures { (result ≡ (show_of w out.old).answer) × (out.new ≡ (show_of w out.old).output) }
 {
     let letters = w.letters;

@@ -24,7 +24,7 @@ struct ReadSoFar {
     at: usize,
     count: usize,
     tone: u8,
-    place: Place,
+    place: Option<usize>,
     twice: bool,
 }
 
@@ -47,7 +47,7 @@ fn with_letter(r: ReadSoFar, tone: u8, length: usize) -> ReadSoFar
         at: next.at,
         count: next.count,
         tone: tone,
-        place: Place::At(r.count),
+        place: Some(r.count),
         twice: false,
     }
 }
@@ -61,7 +61,7 @@ fn read(text: &[u8], letters: &mut [u16]) -> ReadSoFar
         at: 0,
         count: 0,
         tone: NO_TONE,
-        place: Place::Nowhere,
+        place: None,
         twice: false,
     };
     while r.at < text.len() {
@@ -81,16 +81,16 @@ fn read(text: &[u8], letters: &mut [u16]) -> ReadSoFar
     r
 }
 
-fn same_place(a: Place, b: Place) -> bool
+fn same_place(a: Option<usize>, b: Option<usize>) -> bool
     ensures { result ≡ same_place_of a b }
 {
-    let Place::At(m) = a else {
-        let Place::At(_) = b else {
+    let Some(m) = a else {
+        let Some(_) = b else {
             return true;
         };
         return false;
     };
-    let Place::At(n) = b else {
+    let Some(n) = b else {
         return false;
     };
     m == n
@@ -221,17 +221,17 @@ fn put_standard_keys(mode: u8, letters: &[u16], tone: u8, keys: &mut [u8]) -> us
     at + 1
 }
 
-fn refused(number: u8, value: usize) -> WriteAnswer
+fn refused(number: u8, value: usize) -> Result<usize, Refusal>
     ensures { result ≡ refused_write number value }
 {
-    WriteAnswer::Refused(Refusal {
+    Err(Refusal {
         number: number,
         value: value,
     })
 }
 
 // Shown text back to its one standard key list. Refusals: 1, 2 (96), 6 with the place, 7 with 8, 1 to 7 or 9, then 4.
-pub fn spell(mode: u8, text: &[u8], out: &mut [u8]) -> WriteAnswer
+pub fn spell(mode: u8, text: &[u8], out: &mut [u8]) -> Result<usize, Refusal>
     ensures { (result ≡ (spell_of mode text.now out.old).answer) × (out.new ≡ (spell_of mode text.now out.old).output) }
 {
     if !keys::is_mode(mode) {

@@ -50,7 +50,7 @@ impl Begun {
 }
 
 // What stands in front of all answers, at the front of the output: the drill's first line, and nothing for the speller. Refusals: 4 with the bytes needed; the output is then as it was.
-pub fn header(program: Program, out: &mut [u8]) -> WriteAnswer
+pub fn header(program: Program, out: &mut [u8]) -> Result<usize, Refusal>
     ensures { (result ≡ (put (header_of program) out.old).answer) × (out.new ≡ (put (header_of program) out.old).output) }
 {
     match program {
@@ -103,7 +103,7 @@ fn feed_byte(
     let n = least(begun, Begun::MOST);
     let held = &line[..];
     let answer = lines::answer_line(program, &held[0..n], &mut out[at..]);
-    let WriteAnswer::Wrote(written) = answer else {
+    let Ok(written) = answer else {
         return AfterByte {
             length: begun,
             at: at,
@@ -155,11 +155,11 @@ pub fn feed(state: Begun, block: &[u8], from: usize, out: &mut [u8]) -> Fed
 }
 
 // The end of the input: a last line without a newline, if one has begun. Refusals: 4 with the bytes needed; the output is then as it was.
-pub fn finish(state: Begun, out: &mut [u8]) -> WriteAnswer
+pub fn finish(state: Begun, out: &mut [u8]) -> Result<usize, Refusal>
     ensures { (result ≡ (finishing state out.old).answer) × (out.new ≡ (finishing state out.old).output) }
 {
     if state.length == 0 {
-        return WriteAnswer::Wrote(0);
+        return Ok(0);
     }
     let program = state.program;
     let line = state.line;

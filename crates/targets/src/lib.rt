@@ -37,31 +37,31 @@ fn is_own(own: u8, b: u8) -> bool
 }
 
 // The last letter with a wanted base.
-pub fn last_wanted(letters: &[u16], key: ShapeKey) -> Place
+pub fn last_wanted(letters: &[u16], key: ShapeKey) -> Option<usize>
     ensures { result ≡ last_place (wanted key) (map letter letters.now) }
 {
     let mut i = letters.len();
     while 0 < i {
         i -= 1;
         if wants(key, letters[i]) {
-            return Place::At(i);
+            return Some(i);
         }
     }
-    Place::Nowhere
+    None
 }
 
 // The last letter that a Telex circumflex key wants, its own: the same without asking at each letter which key it is.
-pub fn last_own(letters: &[u16], own: u8) -> Place
+pub fn last_own(letters: &[u16], own: u8) -> Option<usize>
     ensures { result ≡ last_place (own_of own) (map letter letters.now) }
 {
     let mut at = letters.len();
     while 0 < at {
         at -= 1;
         if is_own(own, rules::base(letters[at])) {
-            return Place::At(at);
+            return Some(at);
         }
     }
-    Place::Nowhere
+    None
 }
 
 fn is_q(n: u16) -> bool
@@ -77,19 +77,19 @@ fn is_pair(after_q: bool, first: u16, second: u16) -> bool
 }
 
 // The first u followed directly by o, the u not directly after q.
-pub fn pair(letters: &[u16]) -> Place
+pub fn pair(letters: &[u16]) -> Option<usize>
     ensures { result ≡ pair_place false (map letter letters.now) }
 {
     let mut after_q = false;
     let mut i = 0;
     while i + 1 < letters.len() {
         if is_pair(after_q, letters[i], letters[i + 1]) {
-            return Place::At(i);
+            return Some(i);
         }
         after_q = is_q(letters[i]);
         i += 1;
     }
-    Place::Nowhere
+    None
 }
 
 fn is_single(after_q: bool, n: u16) -> bool
@@ -100,19 +100,19 @@ fn is_single(after_q: bool, n: u16) -> bool
 }
 
 // The first o or u not directly after q.
-pub fn single(letters: &[u16]) -> Place
+pub fn single(letters: &[u16]) -> Option<usize>
     ensures { result ≡ single_place false (map letter letters.now) }
 {
     let mut after_q = false;
     let mut i = 0;
     while i < letters.len() {
         if is_single(after_q, letters[i]) {
-            return Place::At(i);
+            return Some(i);
         }
         after_q = is_q(letters[i]);
         i += 1;
     }
-    Place::Nowhere
+    None
 }
 
 // Nothing, k or t.

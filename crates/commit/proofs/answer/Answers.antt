@@ -13,7 +13,7 @@ returns-in-Restore c =
     let args = c.args in
     (restored_part args.mode args.keys.now args.text.now (sym c.rule.ensures ∙ c.in-Restore.is)).1
 
-pub returns-in-Refused : goal.returns-in-Refused
-returns-in-Refused c =
+pub returns-in-Err : goal.returns-in-Err
+returns-in-Err c =
     let args = c.args in
-    (refused_part args.mode args.keys.now args.text.now _ (sym c.rule.ensures ∙ c.in-Refused.is)).1
+    (refused_part args.mode args.keys.now args.text.now _ (sym c.rule.ensures ∙ c.in-Err.is)).1

@@ -22,10 +22,10 @@ returns-then-text-gt-TEXT c =
     let mode : not (is_mode c.args.mode) ≡ false = ap not (sym c.is_mode.ensures ∙ c.if-not-is_mode.false) in
     c.refused-then-text-gt-TEXT.ensures ∙ too_long c.args.mode c.args.keys.now c.args.text.now mode c.if-keys-gt-KEYS.false c.if-text-gt-TEXT.true
 
-pub returns-in-Refused : goal.returns-in-Refused
-returns-in-Refused c =
+pub returns-in-Err : goal.returns-in-Err
+returns-in-Err c =
     let mode : not (is_mode c.args.mode) ≡ false = ap not (sym c.is_mode.ensures ∙ c.if-not-is_mode.false) in
-    not_typed c.args.mode c.args.keys.now c.args.text.now mode c.if-keys-gt-KEYS.false c.if-text-gt-TEXT.false _ (sym (ap (λ (t : TypeAll). t.answer) c.type_all-all.ensures) ∙ c.in-Refused.is)
+    not_typed c.args.mode c.args.keys.now c.args.text.now mode c.if-keys-gt-KEYS.false c.if-text-gt-TEXT.false _ (sym (ap (λ (t : TypeAll). t.answer) c.type_all-all.ensures) ∙ c.in-Err.is)
 
 pub judge-requires : goal.judge-requires
 judge-requires c =

@@ -24,22 +24,22 @@ returns-then-not-reading c =
     let t = refuses Calls.only_one (Calls.show args.lent.now args.out.now) 8 0 e c.no_record.ensures.0 c.no_record.ensures.1 in
     (t.0, t.1, unchanged (Calls.show args.lent.now args.out.now) _ args.out.now 8 0 e)
 
-pub returns-in-Wrote : goal.returns-in-Wrote
-returns-in-Wrote c =
+pub returns-in-Ok : goal.returns-in-Ok
+returns-in-Ok c =
     let args = c.args in
     let so = of_numbers c.read-reading.result.word args.out.now c.numbers_of.ensures in
     let answer = c.show_in.ensures.0 ∙ ap (λ (x : Written). x.answer) so in
     let output = c.show_in.ensures.1 ∙ ap (λ (x : Written). x.output) so in
-    let e = shown args.lent.now c.read-reading.result c.read-reading.ensures args.out.now (not-false _ c.if-not-reading.false) c.show_in.result _ answer c.in-Wrote.is in
+    let e = shown args.lent.now c.read-reading.result c.read-reading.ensures args.out.now (not-false _ c.if-not-reading.false) c.show_in.result _ answer c.in-Ok.is in
     let t = tells Calls.only_one (Calls.show args.lent.now args.out.now) _ e c.answered.ensures.0 c.answered.ensures.1 in
     (t.0, t.1, output ∙ shown_output args.lent.now c.read-reading.result c.read-reading.ensures args.out.now ∙ changed (Calls.show args.lent.now args.out.now) _ args.out.now _ e)
 
-pub returns-in-Refused : goal.returns-in-Refused
-returns-in-Refused c =
+pub returns-in-Err : goal.returns-in-Err
+returns-in-Err c =
     let args = c.args in
     let so = of_numbers c.read-reading.result.word args.out.now c.numbers_of.ensures in
     let answer = c.show_in.ensures.0 ∙ ap (λ (x : Written). x.answer) so in
     let output = c.show_in.ensures.1 ∙ ap (λ (x : Written). x.output) so in
-    let e = shown args.lent.now c.read-reading.result c.read-reading.ensures args.out.now (not-false _ c.if-not-reading.false) c.show_in.result _ answer c.in-Refused.is in
+    let e = shown args.lent.now c.read-reading.result c.read-reading.ensures args.out.now (not-false _ c.if-not-reading.false) c.show_in.result _ answer c.in-Err.is in
     let t = refuses Calls.only_one (Calls.show args.lent.now args.out.now) _ _ e c.refused.ensures.0 c.refused.ensures.1 in
-    (t.0, t.1, output ∙ refused_show c.read-reading.result.word args.out.now _ (ap write_says (sym answer ∙ c.in-Refused.is)) ∙ unchanged (Calls.show args.lent.now args.out.now) _ args.out.now _ _ e)
+    (t.0, t.1, output ∙ refused_show c.read-reading.result.word args.out.now _ (ap write_says (sym answer ∙ c.in-Err.is)) ∙ unchanged (Calls.show args.lent.now args.out.now) _ args.out.now _ _ e)

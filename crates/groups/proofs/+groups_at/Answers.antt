@@ -20,10 +20,10 @@ returns-in_default t c = of_none c.args.bytes.now c.args.at c.args.left c.if-lef
 
 pub in_front-requires : goal.in_front-requires
 in_front-requires t c =
-    let few = few_groups (c.args.left - 1) (drop (c.args.at + 1) c.args.bytes.now) c.in-Read.behind (sym c.in-Read.is ∙ c.groups_at.ensures) in
+    let few = few_groups (c.args.left - 1) (drop (c.args.at + 1) c.args.bytes.now) c.in-Some.behind (sym c.in-Some.is ∙ c.groups_at.ensures) in
     omega arith
 
 pub returns : goal.returns
 returns t c =
     c.in_front.ensures ∙
-    of_some c.args.bytes.now c.args.at c.args.left c.if-left-eq0.false c.if-bytes-at.false c.if-b-lt128.false c.in-Read.behind (sym c.in-Read.is ∙ c.groups_at.ensures)
+    of_some c.args.bytes.now c.args.at c.args.left c.if-left-eq0.false c.if-bytes-at.false c.if-b-lt128.false c.in-Some.behind (sym c.in-Some.is ∙ c.groups_at.ensures)

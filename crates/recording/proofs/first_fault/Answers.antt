@@ -16,8 +16,8 @@ bounds-presses-i c = omega arith
 pub overflow_cast-key : goal.overflow_cast-key
 overflow_cast-key c = omega arith
 
-pub returns-in-Faulty : goal.returns-in-Faulty
-returns-in-Faulty c = stops c.loop-i.progress c.args.presses.now c.loop-i.i c.loop-i-test.true c.check-answer.ensures c.in-Faulty.is ∙ c.loop-i.invariant
+pub returns-in-Err : goal.returns-in-Err
+returns-in-Err c = stops c.loop-i.progress c.args.presses.now c.loop-i.i c.loop-i-test.true c.check-answer.ensures c.in-Err.is ∙ c.loop-i.invariant
 
 pub overflow_cast-x : goal.overflow_cast-x
 overflow_cast-x c = omega (arith, (is_fine _ _ _ _ (sym c.check-answer.ensures ∙ c.in_default.is)).short)

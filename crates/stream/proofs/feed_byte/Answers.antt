@@ -28,7 +28,7 @@ overflow_add-result c =
     let long : length c.args.line.now ≡ most_kept = omega arith in
     let line : take (c.least-n.result - 0) c.args.line.now ≡ line_of state = line_kept state c.least-n.result long c.least-n.ensures in
     let e = c.answer_line-answer.ensures in
-    let room = fits_there state c.args.b c.args.out.now c.args.at c.requires c.if-b-ne10.false _ c.args.out.now line _ (sym e.0 ∙ c.in-Wrote.is) in
+    let room = fits_there state c.args.b c.args.out.now c.args.at c.requires c.if-b-ne10.false _ c.args.out.now line _ (sym e.0 ∙ c.in-Ok.is) in
     search rules
 
 pub returns : goal.returns
@@ -37,5 +37,5 @@ returns c =
     let long : length c.args.line.now ≡ most_kept = omega arith in
     let line : take (c.least-n.result - 0) c.args.line.now ≡ line_of state = line_kept state c.least-n.result long c.least-n.ensures in
     let e = c.answer_line-answer.ensures in
-    let q = is_answered state c.args.b c.args.out.now c.args.at c.requires c.if-b-ne10.false _ _ line _ (sym e.0 ∙ c.in-Wrote.is) e.1 in
+    let q = is_answered state c.args.b c.args.out.now c.args.at c.requires c.if-b-ne10.false _ _ line _ (sym e.0 ∙ c.in-Ok.is) e.1 in
     (q.step, q.line, q.output)

@@ -1,11 +1,11 @@
 -- `word::type_all` meets its contract: each answer is the row of its test, or the keys typed.
+use Rattle.std.specs.Prelude.{Ok}
 use mathlib.Core.Path.{sym, ap, subst, ◌∙◌}
 use mathlib.Core.Bool.{not}
 use native.Mathlib.Omega.{arith}
 use lib.Dec.{T}
 use borrow.Author.Tests.{not-false}
 use Rattle.rules.specs.declared.Word.{Word}
-use Rattle.rules.specs.declared.TypeAnswer.TheVariants.{AllTyped}
 use Rattle.rules.specs.Refusals.{is_mode}
 use Rattle.word.specs.Refusing.{refused_typing}
 use Rattle.word.proofs.Lists.{all_allowed}
@@ -39,5 +39,5 @@ pub returns : goal.returns
 returns c =
     let args = c.args in
     let all = all_allowed args.mode args.keys.now in
-    ap (λ (w : Word). record { answer = AllTyped; word = w }) c.typed_all.ensures ∙
+    ap (λ (w : Word). record { answer = Ok tt; word = w }) c.typed_all.ensures ∙
     sym (all_typed args.mode args.keys.now (ap not (sym c.is_mode.ensures ∙ c.if-not-is_mode.false)) c.if-n-gt-KEYS.false (all.0 (omega (arith, c.allowed_before-allowed.ensures, c.if-allowed-n.false, all.2))))

@@ -4,9 +4,7 @@
 
 ghost use Rattle.std.specs.Prelude.{◌≤◌, length};
 
-use rules::{
-    Decision, DecisionAnswer, Place, PlaceAnswer, TypeAnswer, VerdictAnswer, Word, WriteAnswer,
-};
+use rules::{Decision, Word};
 use std::io;
 use std::io::{ErrorKind, Read};
 use std::process::ExitCode;

@@ -7,7 +7,7 @@ ghost use Rattle.rules.specs.Refusals.{same_bytes, out_of_range};
 ghost use Rattle.rules.specs.WhatComesBack.{commit as commit_of, commit_answer};
 ghost use Rattle.commit.specs.Rulings.{judged, ruling_of, handed_from};
 
-use rules::{CommitAnswer, Decision, Refusal, TypeAnswer, Word};
+use rules::{Decision, Refusal, Word};
 
 // What is to be handed back: so many bytes of the text, the keys, or nothing.
 #[derive(Clone, Copy)]

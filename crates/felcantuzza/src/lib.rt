@@ -11,11 +11,8 @@ ghost use Rattle.felcantuzza.specs.Recordings as Recordings;
 
 use commit::Ruling;
 use press::ShownAnswer;
-use recording::{BeginAnswer, KeyPress, Press, Progress};
-use rules::{
-    Act, Decision, DecisionAnswer, Outcome, Place, PlaceAnswer, Refusal, StartAnswer, StepAnswer,
-    VerdictAnswer, Word, WriteAnswer,
-};
+use recording::{KeyPress, Progress};
+use rules::{Act, Decision, Outcome, Refusal, Word};
 
 fn answered(number: usize, value: &mut usize) -> u8
     ensures { (result ≡ 0) × (value.new ≡ number) }

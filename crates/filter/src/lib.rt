@@ -7,7 +7,6 @@ ghost use Rattle.rules.specs.TheWord.{at_front};
 ghost use Rattle.stream.specs.Feeding.{feeding, room_for, fed_of};
 
 use lines::Program;
-use rules::WriteAnswer;
 use std::io;
 use std::io::{ErrorKind, Read};
 use std::process::ExitCode;

@@ -41,10 +41,6 @@ number bs = number_in most_groups bs
 
 -- 21.5 A function that reads answers with the number and how many groups it has, or with none; one that writes gives
 -- the groups at the front of an array of five.
-abbrev pub answer_of : Option Number → Option Number
-answer_of None = None
-answer_of (Some n) = Some n
-
 abbrev pub held : List ℕ → Groups
 held gs = record { bytes = gs ++ replicate (most_groups - length gs) 0; count = length gs }
 

@@ -10,7 +10,7 @@ ghost use Rattle.rules.specs.SpellProgram.{spelled_line as spelled_line_of};
 ghost use Rattle.lines.specs.Appending.{Appends, ended_by, most_in_line, SmallPlace};
 ghost use Rattle.lines.specs.Programs.{word_line_of, six_end as six_end_of, answer_of, line_answer};
 
-use rules::{Decision, Place, Refusal, TypeAnswer, Word, WriteAnswer};
+use rules::{Decision, Refusal, Word};
 
 const SPACE: u8 = b' ';
 

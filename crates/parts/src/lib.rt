@@ -8,7 +8,7 @@ ghost use Rattle.rules.specs.TakingApart.{front, joins as joins_of};
 ghost use Rattle.rules.specs.TonePlace.{by_count as by_count_of, place_within as place_within_of, tone_place as tone_place_of};
 ghost use Rattle.parts.specs.Ends.{parts_of};
 
-use rules::{CAPITAL, NO_TONE, PLAIN, Place};
+use rules::{CAPITAL, NO_TONE, PLAIN};
 
 // Places within a nucleus.
 const FIRST: usize = 0;

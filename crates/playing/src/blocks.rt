@@ -5,7 +5,7 @@ ghost use Rattle.recording.specs.Recordings.{step_at, begin as begin_of};
 ghost use Rattle.playing.specs.Parts.{IsPart, Enough, ReadOn, shown_in, short, later};
 
 use crate::{Read, Window, least, say};
-use recording::{BeginAnswer, Progress, Stepped};
+use recording::{Progress, Stepped};
 use std::io::Read as _;
 
 // A step is two numbers, each of at most five bytes.

@@ -2,7 +2,7 @@
 ghost use Rattle.std.specs.Prelude.{◌+◌, ◌≤◌, length};
 
 use crate::{OUTPUT, Totals, Waiting, least, say};
-use rules::{Act, Decision, Outcome, Refusal, Word, WriteAnswer};
+use rules::{Act, Decision, Outcome, Refusal, Word};
 use std::fmt::InlineText;
 use std::io::ErrorKind;
 

@@ -4,8 +4,7 @@
 
 ghost use Rattle.std.specs.Prelude.{◌≡◌, min};
 
-use recording::{BeginAnswer, KeyPress, Press, Progress, SPACE};
-use replay::WordAnswer;
+use recording::{KeyPress, Progress, SPACE};
 use rules::{Decision, Word};
 use std::process::ExitCode;
 

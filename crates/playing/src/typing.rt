@@ -1,7 +1,7 @@
 // A key of a word: kept until the word ends, and where each key has a line, typed at once.
 use crate::{OUTPUT, Play, Waiting, columns};
 use recording::KeyPress;
-use rules::{StepAnswer, Word};
+use rules::{Word};
 
 // A key typed into the word that has begun, and its line. The word takes the key: the step asked that of the recording.
 fn type_key(

@@ -4,7 +4,7 @@
 ghost use Rattle.std.specs.Prelude.{◌≡◌};
 ghost use Rattle.press.specs.StepAndShow.{step_and_show};
 
-use rules::{Outcome, Refusal, StepAnswer, Word, WriteAnswer};
+use rules::{Outcome, Refusal, Word};
 
 // What typing a key and showing the word comes to: what the key did, with the bytes written.
 #[derive(Clone, Copy)]

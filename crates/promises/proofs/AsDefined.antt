@@ -12,7 +12,7 @@ use Rattle.rules.specs.declared.TypeAll.{TypeAll}
 use Rattle.lines.specs.Programs.{line_answer}
 use Rattle.lines.specs.declared.Program.{Program}
 use Rattle.session.specs.declared.Session.{Session}
-use Rattle.groups.specs.Numbers.{written, number, answer_of, held}
+use Rattle.groups.specs.Numbers.{written, number, held}
 use Rattle.groups.specs.declared.Groups.{Groups}
 use Rattle.recording.specs.Recordings.{step_at, begin}
 use Rattle.recording.specs.Drills.{written_drill}
@@ -82,8 +82,8 @@ module _ {before after : Session} {k : ℕ} {r : Result Outcome Refusal} (a : Ke
   key_session = sym a.at_exit ∙ a.post.1 ∙ (λ i. record { word = (step_of (a.at_entry i).word (a.key i)).word })
 
 -- and of the entries for recorded drills
-pub number_read : {bs : List ℕ} {at : ℕ} {r : Option Number} → NumberAllows bs at r → r ≡ answer_of (number (drop at bs))
-number_read a = a.post ∙ (λ i. answer_of (number (drop (a.of_place i) (a.of_bytes i))))
+pub number_read : {bs : List ℕ} {at : ℕ} {r : Option Number} → NumberAllows bs at r → r ≡ (number (drop at bs))
+number_read a = a.post ∙ (λ i. (number (drop (a.of_place i) (a.of_bytes i))))
 
 pub number_written : {n : ℕ} {g : Groups} → WrittenAllows n g → g ≡ held (written n)
 number_written a = a.post

@@ -9,7 +9,7 @@ use lib.ListN.{length, take, drop, replicate}
 use lib.Seq.{take-append_seam, take_at}
 use Rattle.rules.specs.WhatComesBack.{Written}
 use Rattle.rules.specs.declared.Refusal.{Refusal}
-use Rattle.groups.specs.Numbers.{most_groups, number, written, answer_of, held}
+use Rattle.groups.specs.Numbers.{most_groups, number, written, held}
 use Rattle.groups.specs.declared.Groups.{Groups}
 use Rattle.groups.proofs.Reading.{was_some}
 use Rattle.groups.proofs.BothWays.{number_back, written_back, number_groups}
@@ -38,7 +38,7 @@ pub numbers_back : NumbersBack
 numbers_back n g bs rest at a below w here r =
     let e = number_written w in
     let front : drop at bs ≡ written n ++ rest = here ∙ ap (λ (gs : List ℕ). gs ++ rest) (its_groups n g e) in
-    number_read r ∙ ap answer_of (ap number front ∙ number_back n below rest) ∙ ap (λ (h : Groups). answer_of (Some (record { value = n; groups = h.count }))) (sym e)
+    number_read r ∙ (ap number front ∙ number_back n below rest) ∙ ap (λ (h : Groups). (Some (record { value = n; groups = h.count }))) (sym e)
 
 pub bytes_back : BytesBack
 bytes_back bs at n g all r w =
@@ -183,7 +183,7 @@ pub recorded_possible : RecordedPossible
 recorded_possible =
     record {
       reading_a_number = λ bs at. (
-        answer_of (number (drop at bs)),
+        (number (drop at bs)),
         record { lifetimes = ([], tt); args = (holds bs, (at, tt)); exit = (holds bs, (at, tt)); of_bytes = refl; of_place = refl; post = refl },
       );
       writing_a_number = λ n. (held (written n), record { lifetimes = tt; exit = (n, tt); post = refl });

@@ -5,7 +5,7 @@ ghost use Rattle.std.specs.Prelude.{◌≡◌};
 ghost use Rattle.recording.specs.Recordings.{begin as begin_of};
 ghost use Rattle.reader.specs.Standing.{step_from, place_after};
 
-use recording::{BeginAnswer, Progress, Stepped};
+use recording::{Progress, Stepped};
 
 #[derive(Clone, Copy)]
 pub struct Reader<'a> {

@@ -7,7 +7,7 @@ ghost use Rattle.std.specs.Prelude.{◌≡◌, min};
 
 use messages::{say, say_fault, say_refused};
 use recording::SPACE;
-use rules::{Word, WriteAnswer};
+use rules::{Word};
 use std::io::{ErrorKind, Read};
 use std::process::ExitCode;
 

@@ -10,7 +10,7 @@ use lib.Dec.{ltb}
 use lib.ListN.{length, drop}
 use lib.Seq.{drop-drop, get_or-drop}
 use Rattle.rules.specs.declared.Refusal.{Refusal}
-use Rattle.groups.specs.Numbers.{number, written, answer_of, AllBytes}
+use Rattle.groups.specs.Numbers.{number, written, AllBytes}
 use Rattle.groups.specs.declared.Number.{Number}
 use Rattle.groups.proofs.BothWays.{written_back, number_within}
 use Rattle.recording.specs.Recordings.{press, onward, refused_for, checked, staying, step_at}
@@ -43,20 +43,20 @@ module _ (s : List ℕ) (at : ℕ) (p : Progress) where
   module _ (inside : at < length s) where
     module _ (t k : Number) (e : number (drop at s) ≡ Some t) (f : number (drop (at + t.groups) s) ≡ Some k) where
       checked_there : (c : Result ⊤ Refusal) → checked p (press t.value k.value) (at + t.groups) at ≡ c → Meets s at p (step_at s at p)
-      checked_there (Err r) c = subst (Meets s at p) (faulty_press s at p t inside (sym (ap answer_of e)) k (sym (ap answer_of f)) r c) (a_refusal r inside)
+      checked_there (Err r) c = subst (Meets s at p) (faulty_press s at p t inside (sym e) k (sym f) r c) (a_refusal r inside)
       checked_there (Ok tt) c =
           let one = number_within (drop at s) t e in
           let two = number_within (drop (at + t.groups) s) k f in
-          let end = ends_within s (at + t.groups) k (sym (ap answer_of f)) in
-          subst (Meets s at p) (fine_press s at p t inside (sym (ap answer_of e)) k (sym (ap answer_of f)) c)
+          let end = ends_within s (at + t.groups) k (sym f) in
+          subst (Meets s at p) (fine_press s at p t inside (sym e) k (sym f) c)
           (a_press (press t.value k.value) (at + t.groups + k.groups) (fine_anywhere p (press t.value k.value) (at + t.groups) at 0 0 c) (omega (arith, one, two)) end (both_back t k e f))
 
     key_there : (t : Number) → number (drop at s) ≡ Some t → (o : Option Number) → number (drop (at + t.groups) s) ≡ o → Meets s at p (step_at s at p)
-    key_there t e None f = subst (Meets s at p) (no_key s at p t inside (sym (ap answer_of e)) (sym (ap answer_of f))) (a_refusal (refused_for 10 (at + t.groups)) inside)
+    key_there t e None f = subst (Meets s at p) (no_key s at p t inside (sym e) (sym f)) (a_refusal (refused_for 10 (at + t.groups)) inside)
     key_there t e (Some k) f = checked_there t k e f (checked p (press t.value k.value) (at + t.groups) at) refl
 
     time_there : (o : Option Number) → number (drop at s) ≡ o → Meets s at p (step_at s at p)
-    time_there None e = subst (Meets s at p) (no_time s at p inside (sym (ap answer_of e))) (a_refusal (refused_for 10 at) inside)
+    time_there None e = subst (Meets s at p) (no_time s at p inside (sym e)) (a_refusal (refused_for 10 at) inside)
     time_there (Some t) e = key_there t e (number (drop (at + t.groups) s)) refl
 
   by_place : (b : Bool) → ltb at (length s) ≡ b → Meets s at p (step_at s at p)

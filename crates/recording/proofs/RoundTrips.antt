@@ -11,7 +11,7 @@ use borrow.Author.Tests.{eqb-true, ltb-true, ltb-false}
 use lib.Dec.{eqb, ltb}
 use Rattle.rules.specs.declared.Refusal.{Refusal}
 use Rattle.rules.specs.Refusals.{wrong_mode}
-use Rattle.groups.specs.Numbers.{number, written, answer_of, limit, AllBytes}
+use Rattle.groups.specs.Numbers.{number, written, limit, AllBytes}
 use Rattle.groups.specs.declared.Number.{Number}
 use Rattle.groups.proofs.BothWays.{number_back, written_some, written_back}
 use Rattle.recording.specs.Recordings.{none_yet, onward, checked, step_at, mode_if, mode_read, begin, Reading, broken, presses, before, and_then, refused_at, drill, in_mode, recorded_after, recorded}
@@ -54,7 +54,7 @@ module _ (s : List ℕ) (at : ℕ) (p : Progress) (x : KeyPress) (rest : List �
       let t = ap number behind_time ∙ number_back x.milliseconds (omega (arith, f.short)) (written x.key ++ rest) in
       let k = ap number at_key ∙ number_back x.key (omega (arith, is_byte p x.key f.allowed)) rest in
       let long : at + length (written x.milliseconds) + length (written x.key) ≡ at + length (press_bytes x) = omega (arith, length-append (written x.milliseconds) (written x.key)) in
-      sym (fine_press s at p time_there (omega (arith, is_inside)) (sym (ap answer_of t)) key_there (sym (ap answer_of k)) (fine_anywhere p x 0 0 _ _ fine)) ∙
+      sym (fine_press s at p time_there (omega (arith, is_inside)) (sym t) key_there (sym k) (fine_anywhere p x 0 0 _ _ fine)) ∙
       ap (λ (n : ℕ). let u : Stepped = record { press = Ok (Some x); at = n; progress = onward p x } in u) long
 
   pub behind_both : drop (at + length (press_bytes x)) s ≡ rest

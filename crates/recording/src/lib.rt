@@ -9,8 +9,7 @@ ghost use Rattle.groups.specs.Numbers.{limit, written};
 ghost use Rattle.recording.specs.Recordings.{is_space, press, none_yet as none_yet_of, in_word as in_word_of, onward as onward_of, word_full, refused_for, checked as checked_of, staying as staying_of, refused_step, step_at as step_at_of, begin as begin_of};
 ghost use Rattle.recording.specs.Drills.{press_in, short_time, drill_bytes, checked_from, written_drill};
 
-use groups::NumberAnswer;
-use rules::{Refusal, Word, WriteAnswer};
+use rules::{Refusal, Word};
 
 // The key that ends a word.
 pub const SPACE: u8 = b' ';

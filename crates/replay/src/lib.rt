@@ -12,8 +12,8 @@ ghost use Rattle.recording.specs.Recordings.{is_space, begin};
 ghost use Rattle.replay.specs.Replays.{if_kept as if_kept_of, if_restored as if_restored_of, committed_line, nothing, done_of, word_replayed, refused_replay, replayed};
 ghost use Rattle.replay.specs.Passes.{total_of, throughout, passage_of, LinesPut, with_done, Fits, FitsKeys, line_at, some_keys, total_if, keys_unless, output_if, found_of};
 
-use recording::{BeginAnswer, Begun, Press, SPACE};
-use rules::{Decision, Refusal, TypeAnswer, Word, WriteAnswer};
+use recording::{Begun, SPACE};
+use rules::{Decision, Refusal, Word};
 
 // The words, those kept and restored, the keys that acted, undid and were appended, and all milliseconds.
 #[derive(Clone, Copy)]

@@ -5,7 +5,7 @@ ghost use Rattle.std.specs.Prelude.{◌≡◌};
 ghost use Rattle.rules.specs.WhatComesBack.{step as step_of};
 ghost use Rattle.session.specs.Sessions.{session_of};
 
-use rules::{StepAnswer, Word};
+use rules::{Outcome, Refusal, Word};
 
 #[derive(Drop)]
 pub struct Session {

@@ -11,7 +11,7 @@ ghost use Rattle.records.specs.Numbers.{word_in};
 ghost use Rattle.show.specs.Filling.{tone_if, toned_at, text_from, room_text, text_out};
 
 use records::Numbers;
-use rules::{NO_TONE, Place, Refusal, Word, WriteAnswer};
+use rules::{NO_TONE, Refusal, Word};
 
 // The UTF-8 bytes of a code point from a place of the text on; the place after them. No code point (0) shows nothing.
 fn put_point(text: &mut [u8], at: usize, point: u16) -> usize

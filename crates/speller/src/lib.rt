@@ -10,10 +10,7 @@ ghost use Rattle.rules.specs.WhatComesBack.{spell as spell_of};
 ghost use Rattle.speller.specs.TextRead.{reading_of, have_capitals, ReadInto, same_place as same_place_of, keys_from, first_awaits_o, refused_write};
 
 use letters::LetterRead;
-use rules::{
-    ACUTE, BREVE, CIRCUMFLEX, DOT, GRAVE, HOOK, HORN, NO_TONE, PLAIN, Place, Refusal, STROKE,
-    TILDE, Word, WriteAnswer,
-};
+use rules::{ACUTE, BREVE, CIRCUMFLEX, DOT, GRAVE, HOOK, HORN, NO_TONE, PLAIN, Refusal, STROKE, TILDE, Word};
 
 // Room for the keys of any text: a letter and its shape key for each byte, and the tone key. A syllable has at most 9.
 const MOST_KEYS: usize = 2 * Word::TEXT + 1;

@@ -9,7 +9,7 @@ ghost use Rattle.targets.specs.Aims.{one_at, pair_at};
 ghost use Rattle.step.specs.LentLetters.{LettersInFront, LetterThere, Edits, paired};
 
 use crate::Edit;
-use rules::{Act, BREVE, CIRCUMFLEX, HORN, PLAIN, Place, STROKE, ShapeKey, Touched};
+use rules::{Act, BREVE, CIRCUMFLEX, HORN, PLAIN, STROKE, ShapeKey, Touched};
 
 // A shape on the letter at a place: taken off if it is there already.
 fn at(letters: &mut [u16], count: usize, i: usize, kind: u8) -> Edit

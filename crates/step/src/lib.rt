@@ -10,7 +10,7 @@ ghost use Rattle.step.specs.LentLetters.{LettersInFront, RoomForLetter, NoSecond
 ghost use Rattle.step.specs.InPlace.{held_in, ReadyAt, TypedAt, refused_with, not_taken as not_taken_of, step_at as step_at_of};
 
 use records::Numbers;
-use rules::{Act, HORN, NO_TONE, Outcome, Refusal, Role, Step, StepAnswer, ToneKey, Touched, Word};
+use rules::{Act, HORN, NO_TONE, Outcome, Refusal, Role, Step, ToneKey, Touched, Word};
 
 mod edits;
 mod keeping;

@@ -7,7 +7,7 @@ ghost use Rattle.rules.specs.TheWord.{letter};
 ghost use Rattle.rules.specs.KeyRoles.{own as own_of, is_aeo as is_aeo_of, is_q as is_q_of, is_pair as is_pair_of, is_single as is_single_of, horns_o_alone as horns_o_alone_of, awaits_second_horn as awaits_second_horn_of};
 ghost use Rattle.targets.specs.Places.{wanted, last_place, pair_place, single_place};
 
-use rules::{CIRCUMFLEX, HORN, PLAIN, Place, ShapeKey};
+use rules::{CIRCUMFLEX, HORN, PLAIN, ShapeKey};
 
 // Circumflex wants its own letter, or a, e or o; breve wants a.
 fn wants(key: ShapeKey, n: u16) -> bool

@@ -10,10 +10,7 @@ ghost use Rattle.rules.specs.KeyRoles.{is_key};
 ghost use Rattle.rules.specs.Refusals.{all, is_mode as is_mode_of, allowed_before as allowed_before_of};
 ghost use Rattle.rules.specs.WhatComesBack.{start as start_of, typed, type_all as type_all_of, place_answer, verdict_answer, decision_answer};
 
-use rules::{
-    Decision, DecisionAnswer, PlaceAnswer, Refusal, STROKE, Start, StartAnswer, TypeAll,
-    TypeAnswer, VerdictAnswer, Word,
-};
+use rules::{Decision, Refusal, STROKE, Start, TypeAll, Word};
 
 // A new word in a mode. Refusals: 1.
 pub fn start(mode: u8) -> Start

@@ -1,4 +1,5 @@
 -- The search for a code point, one entry of the table after the other.
+use Rattle.std.specs.Prelude.{Some, None}
 use mathlib.Core.Path.{◌≡◌, refl, sym, ap, ◌∙◌}
 use mathlib.Core.Bool.{true, false}
 use mathlib.Core.List.{List}
@@ -11,7 +12,6 @@ use borrow.Author.Tests.{eq-eqb, ne_eqb}
 use Rattle.rules.specs.TheWord.{number}
 use Rattle.rules.specs.CodePoints.{capital_point}
 use Rattle.rules.specs.Speller.{no_letter, a_letter}
-use Rattle.letters.specs.declared.LetterRead.TheVariants.{Letter, NoLetter}
 use Rattle.letters.specs.Rows.{point_table, letter_of, cased, sign_of}
 use Rattle.letters.specs.Decoding.{found_in, found, read_as}
 
@@ -34,20 +34,20 @@ unread : (xs : List ℕ) (c i : ℕ) → length xs ≤ i → found_in c i (drop 
 unread xs c i l = rw (drop_of_length-le xs l)
 
 module _ (c n i : ℕ) (inv : found c ≡ found_in c i (drop i point_table)) where
-  pub small_read : i < 72 → get_or point_table i 0 ≡ c → {x : ℕ} → x ≡ number (cased false (letter_of (i / 6))) → Letter x (i % 6) n ≡ read_as n (found c)
+  pub small_read : i < 72 → get_or point_table i 0 ≡ c → {x : ℕ} → x ≡ number (cased false (letter_of (i / 6))) → Some (record { number = x; tone = i % 6; length = n }) ≡ read_as n (found c)
   unfolding point_table
-  small_read l e d = ap (λ (m : ℕ). Letter m (i % 6) n) d ∙ sym (ap (read_as n) (inv ∙ at_small c point_table i l e))
+  small_read l e d = ap (λ (m : ℕ). Some (record { number = m; tone = i % 6; length = n })) d ∙ sym (ap (read_as n) (inv ∙ at_small c point_table i l e))
 
-  pub capital_read : i < 72 → (get_or point_table i 0 ≡ c → ⊥) → capital_point (get_or point_table i 0) ≡ c → {x : ℕ} → x ≡ number (cased false (letter_of (i / 6))) → Letter (x + 2048) (i % 6) n ≡ read_as n (found c)
+  pub capital_read : i < 72 → (get_or point_table i 0 ≡ c → ⊥) → capital_point (get_or point_table i 0) ≡ c → {x : ℕ} → x ≡ number (cased false (letter_of (i / 6))) → Some (record { number = x + 2048; tone = i % 6; length = n }) ≡ read_as n (found c)
   unfolding point_table
   capital_read l h e {x} d =
       let k : x + 2048 ≡ number (cased true (letter_of (i / 6))) = omega arith in
-      ap (λ (m : ℕ). Letter m (i % 6) n) k ∙ sym (ap (read_as n) (inv ∙ at_capital c point_table i l h e))
+      ap (λ (m : ℕ). Some (record { number = m; tone = i % 6; length = n })) k ∙ sym (ap (read_as n) (inv ∙ at_capital c point_table i l h e))
 
   pub goes_on : i < 72 → (get_or point_table i 0 ≡ c → ⊥) → (capital_point (get_or point_table i 0) ≡ c → ⊥) → found c ≡ found_in c (i + 1) (drop (i + 1) point_table)
   unfolding point_table
   goes_on l h g = inv ∙ further c point_table i l h g
 
-  pub not_read : 72 ≤ i → NoLetter ≡ read_as n (found c)
+  pub not_read : 72 ≤ i → None ≡ read_as n (found c)
   unfolding point_table
   not_read l = sym (ap (read_as n) (inv ∙ unread point_table c i l))

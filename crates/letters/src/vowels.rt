@@ -119,22 +119,22 @@ pub(crate) fn point(row: usize, tone: usize) -> u16
 }
 
 // The letter of a code point above ASCII: đ, or one of the table, small or as a capital.
-pub(crate) fn find(point: u16, length: usize) -> LetterRead
+pub(crate) fn find(point: u16, length: usize) -> Option<LetterRead>
     ensures { result ≡ read_as length (found point) }
 {
     if point == D_STROKE_POINT {
-        return LetterRead::Letter {
+        return Some(LetterRead {
             number: D_STROKE,
             tone: NO_TONE,
             length: length,
-        };
+        });
     }
     if point == CAPITAL_D_STROKE_POINT {
-        return LetterRead::Letter {
+        return Some(LetterRead {
             number: D_STROKE + CAPITAL,
             tone: NO_TONE,
             length: length,
-        };
+        });
     }
     // Hoisted: the table is written out once, and not at each turn.
     let points = POINTS;
@@ -142,20 +142,20 @@ pub(crate) fn find(point: u16, length: usize) -> LetterRead
     while i < ENTRIES {
         let small = points[i];
         if small == point {
-            return LetterRead::Letter {
+            return Some(LetterRead {
                 number: letter(i / TONES),
                 tone: (i % TONES) as u8,
                 length: length,
-            };
+            });
         }
         if capital_point(small) == point {
-            return LetterRead::Letter {
+            return Some(LetterRead {
                 number: letter(i / TONES) + CAPITAL,
                 tone: (i % TONES) as u8,
                 length: length,
-            };
+            });
         }
         i += 1;
     }
-    LetterRead::NoLetter
+    None
 }

@@ -1,5 +1,5 @@
 -- `AppendedKey` of specs/Appending.antt, by the law on appending and the contract of step.
-use Rattle.std.specs.Prelude.{Ok}
+use Rattle.std.specs.Prelude.{Ok, Result}
 use mathlib.Core.Path.{◌≡◌, sym, ap, subst, ◌∙◌}
 use Prim.Native.Nat.{ℕ}
 use native.Mathlib.Omega.{arith}
@@ -18,8 +18,9 @@ use Rattle.rules.proofs.Appends.{appended_key}
 use Rattle.promises.specs.Appending.{AppendedKey}
 use Rattle.promises.proofs.AsDefined.{stepped}
 use Rattle.promises.proofs.FromNumbers.{did_as}
+use Rattle.rules.specs.declared.Refusal.{Refusal}
 
-is_appended_law : (o : Outcome) → Ok o ≡ Ok Appended → T (is_appended o)
+is_appended_law : (o : Outcome) → ◌≡◌ {A = Result Outcome Refusal} (Ok o) (Ok Appended) → T (is_appended o)
 is_appended_law (Acted a) e = let z : ◌≡◌ {A = ℕ} 0 1 = cc in absurd (omega arith)
 is_appended_law Undone e = let z : ◌≡◌ {A = ℕ} 0 1 = cc in absurd (omega arith)
 is_appended_law Appended e = tt

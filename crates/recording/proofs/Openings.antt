@@ -1,5 +1,5 @@
 -- Behind the mode of a recording: the mode is one that there is, nothing is pressed yet, and the place is within the recording.
-use Rattle.std.specs.Prelude.{Option, Some, None, Ok, Err}
+use Rattle.std.specs.Prelude.{Option, Some, None, Ok, Err, Result}
 use mathlib.Core.Path.{◌≡◌, refl, sym, subst}
 use mathlib.Core.Bool.{Bool, true, false}
 use mathlib.Core.List.{List}
@@ -21,10 +21,10 @@ pub record Opened (s : List ℕ) (b : Begun) : Type 0 where
   pub none_yet_law : b.progress ≡ none_yet b.progress.mode
   pub inside : b.at ≤ length s
 
-no_mode : {A : Type 0} {r : Refusal} {b : Begun} → Err r ≡ Ok b → A
+no_mode : {A : Type 0} {r : Refusal} {b : Begun} → ◌≡◌ {A = Result Begun Refusal} (Err r) (Ok b) → A
 no_mode e = let z : ◌≡◌ {A = ℕ} 0 1 = cc in absurd (omega arith)
 
-same_begun : {a b : Begun} → Ok a ≡ Ok b → a ≡ b
+same_begun : {a b : Begun} → ◌≡◌ {A = Result Begun Refusal} (Ok a) (Ok b) → a ≡ b
 same_begun e = cc
 
 module _ (s : List ℕ) (b : Begun) where

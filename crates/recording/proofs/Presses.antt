@@ -1,5 +1,5 @@
 -- The checks of one press: what each of the tests says, and what is known where none of them holds.
-use Rattle.std.specs.Prelude.{Ok, Err}
+use Rattle.std.specs.Prelude.{Ok, Err, Result, ⊤}
 use mathlib.Core.Path.{◌≡◌, refl, sym, ap, ◌∙◌}
 use mathlib.Core.Bool.{Bool, true, false, not, ◌||◌}
 use mathlib.Core.List.{[], ◌∷◌}
@@ -61,7 +61,7 @@ pub record IsFine (p : Progress) (x : KeyPress) : Type 0 where
   pub allowed : not_allowed p x.key ≡ false
   pub short : p.milliseconds + x.milliseconds < limit
 
-faulty_fine : {A : Type 0} {r : Refusal} → Err r ≡ (Ok tt) → A
+faulty_fine : {A : Type 0} {r : Refusal} → ◌≡◌ {A = Result ⊤ Refusal} (Err r) (Ok tt) → A
 faulty_fine e = let z : ◌≡◌ {A = ℕ} 0 1 = cc in absurd (omega arith)
 
 by_rows : (x y z : Bool) (a b : ℕ) → checked_of (first_row (row 2 x a ∷ row 3 y a ∷ row 11 z b ∷ [])) ≡ (Ok tt) → (x ≡ false) × (y ≡ false) × (z ≡ false)

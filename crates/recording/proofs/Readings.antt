@@ -1,5 +1,5 @@
 -- The whole reading: more steps than bytes change nothing, it goes on from step to step, and what each step says of the rest.
-use Rattle.std.specs.Prelude.{Some, None, Ok, Err}
+use Rattle.std.specs.Prelude.{Some, None, Ok, Err, Option, Result}
 use mathlib.Core.Path.{◌≡◌, refl, sym, ap, subst, ◌∙◌}
 use mathlib.Core.List.{List, []}
 use Prim.Native.Nat.{ℕ, zero, suc, ◌+◌, ◌-◌, ◌≤◌, ◌<◌}
@@ -64,19 +64,19 @@ pub record MetPress (s : List ℕ) (at : ℕ) (p : Progress) (t : Stepped) (x : 
   pub read : rest_from s at p ≡ before x (rest_from s t.at (onward p x))
 
 -- the three things that a step meets are three
-end_press : {A : Type 0} {x : KeyPress} → (Ok None) ≡ Ok (Some x) → A
+end_press : {A : Type 0} {x : KeyPress} → ◌≡◌ {A = Result (Option KeyPress) Refusal} (Ok None) (Ok (Some x)) → A
 end_press e = let z : ◌≡◌ {A = ℕ} 0 1 = cc in absurd (omega arith)
 
-refused_press : {A : Type 0} {r : Refusal} {x : KeyPress} → Err r ≡ Ok (Some x) → A
+refused_press : {A : Type 0} {r : Refusal} {x : KeyPress} → ◌≡◌ {A = Result (Option KeyPress) Refusal} (Err r) (Ok (Some x)) → A
 refused_press e = let z : ◌≡◌ {A = ℕ} 0 1 = cc in absurd (omega arith)
 
-end_refused : {A : Type 0} {r : Refusal} → (Ok None) ≡ Err r → A
+end_refused : {A : Type 0} {r : Refusal} → ◌≡◌ {A = Result (Option KeyPress) Refusal} (Ok None) (Err r) → A
 end_refused e = let z : ◌≡◌ {A = ℕ} 0 1 = cc in absurd (omega arith)
 
-same_press : {x y : KeyPress} → Ok (Some x) ≡ Ok (Some y) → x ≡ y
+same_press : {x y : KeyPress} → ◌≡◌ {A = Result (Option KeyPress) Refusal} (Ok (Some x)) (Ok (Some y)) → x ≡ y
 same_press e = cc
 
-same_refusal : {x y : Refusal} → Err x ≡ Err y → x ≡ y
+same_refusal : {x y : Refusal} → ◌≡◌ {A = Result (Option KeyPress) Refusal} (Err x) (Err y) → x ≡ y
 same_refusal e = cc
 
 module _ (s : List ℕ) (at : ℕ) (p : Progress) where

@@ -26,10 +26,10 @@ module _ (m : ℕ) (xs : List KeyPress) (out : List ℕ) (n : ℕ) (after : List
   abbrev Is : Written → Type 0
   Is w = (Ok n ≡ w.answer) × (after ≡ w.output)
 
-  no_answer : {A : Type 0} {r : Refusal} → Ok n ≡ Err r → A
+  no_answer : {A : Type 0} {r : Refusal} → ◌≡◌ {A = Result ℕ Refusal} (Ok n) (Err r) → A
   no_answer e = let z : ◌≡◌ {A = ℕ} 0 1 = cc in absurd (omega arith)
 
-  same_long : {k : ℕ} → Ok n ≡ Ok k → k ≡ n
+  same_long : {k : ℕ} → ◌≡◌ {A = Result ℕ Refusal} (Ok n) (Ok k) → k ≡ n
   same_long e = cc
 
   by_room : (b : Bool) → ltb (length out) (length (drill_bytes m xs)) ≡ b → Is (put (drill_bytes m xs) out) → take n after ≡ drill_bytes m xs

@@ -19,7 +19,7 @@ const LIMIT: u64 = 4294967296;
 
 // How far a drill has come: its mode, how many keys the word that has begun has, and the milliseconds so far.
 // Every field is public, so any numbers can be handed in: 32 keys and more are a full word, and a mode that does not exist allows letters only.
-#[derive(Clone, Copy)]
+#[derive(Clone, Copy, Debug, PartialEq, Eq)]
 pub struct Progress {
     pub mode: u8,
     pub in_word: usize,
@@ -27,22 +27,14 @@ pub struct Progress {
 }
 
 // A key, and the milliseconds since the last one.
-#[derive(Clone, Copy)]
+#[derive(Clone, Copy, Debug, PartialEq, Eq)]
 pub struct KeyPress {
     pub milliseconds: u32,
     pub key: u8,
 }
 
-// What a step meets: a key that was pressed, the end of the recording, or a refusal with its place.
-#[derive(Clone, Copy)]
-pub enum Press {
-    Pressed(KeyPress),
-    End,
-    Refused(Refusal),
-}
-
-// After a step: what it met, the place of the next one, and how far the drill has come.
-#[derive(Clone, Copy)]
+// After a step: what it met (a key that was pressed, none at the end of the recording, or a refusal with its place), the place of the next one, and how far the drill has come.
+#[derive(Clone, Copy, Debug, PartialEq, Eq)]
 pub struct Stepped {
     pub press: Result<Option<KeyPress>, Refusal>,
     pub at: usize,
@@ -50,23 +42,10 @@ pub struct Stepped {
 }
 
 // Behind the mode: the place of the first step, and a drill that has only begun.
-#[derive(Clone, Copy)]
+#[derive(Clone, Copy, Debug, PartialEq, Eq)]
 pub struct Begun {
     pub at: usize,
     pub progress: Progress,
-}
-
-#[derive(Clone, Copy)]
-pub enum BeginAnswer {
-    Begins(Begun),
-    Refused(Refusal),
-}
-
-// A press that may follow, or the first of its refusals.
-#[derive(Clone, Copy)]
-enum Checked {
-    Fine,
-    Faulty(Refusal),
 }
 
 // The mode in front of a recording. Refusals: 10, 1, at place 0.

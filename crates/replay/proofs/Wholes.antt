@@ -48,10 +48,10 @@ module _ (s out : List ℕ) (b : Begun) (e : begin s ≡ Ok b) where
   is_broken r f = by_outcome ∙ ap (λ (o : Outcome). of_outcome o out) (was_stopped r (throughout s b) f)
 
   module _ (f : Found) where
-    found_nothing : {A : Type 0} {r : Refusal} → Err r ≡ Ok f → A
+    found_nothing : {A : Type 0} {r : Refusal} → ◌≡◌ {A = Result Found Refusal} (Err r) (Ok f) → A
     found_nothing e = let z : ◌≡◌ {A = ℕ} 0 1 = cc in absurd (omega arith)
 
-    found_all : {g : Found} → Ok g ≡ Ok f → g ≡ f
+    found_all : {g : Found} → ◌≡◌ {A = Result Found Refusal} (Ok g) (Ok f) → g ≡ f
     found_all e = cc
 
     short : (o : Outcome) → passage_of o ≡ Ok f → length out < f.written → of_outcome o out ≡ refused_replay (record { number = 4; value = f.written }) out

@@ -9,7 +9,6 @@ ghost use Rattle.rules.specs.Speller.{key_of_letter as key_of_letter_of, shape_k
 ghost use Rattle.rules.specs.WhatComesBack.{spell as spell_of};
 ghost use Rattle.speller.specs.TextRead.{reading_of, have_capitals, ReadInto, same_place as same_place_of, keys_from, first_awaits_o, refused_write};
 
-use letters::LetterRead;
 use rules::{ACUTE, BREVE, CIRCUMFLEX, DOT, GRAVE, HOOK, HORN, NO_TONE, PLAIN, Refusal, STROKE, TILDE, Word};
 
 // Room for the keys of any text: a letter and its shape key for each byte, and the tone key. A syllable has at most 9.
@@ -62,18 +61,11 @@ fn read(text: &[u8], letters: &mut [u16]) -> ReadSoFar
         twice: false,
     };
     while r.at < text.len() {
-        let front = letters::read(text, r.at);
-        let LetterRead::Letter {
-            number,
-            tone,
-            length,
-        } = front
-        else {
+        let Some(front) = letters::read(text, r.at) else {
             return r;
         };
-        let n = r.count;
-        letters[n] = number;
-        r = with_letter(r, tone, length);
+        letters[r.count] = front.number;
+        r = with_letter(r, front.tone, front.length);
     }
     r
 }

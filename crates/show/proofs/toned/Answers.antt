@@ -1,5 +1,5 @@
 -- `show::toned` meets its contract: the place of the tone as a number.
-use Rattle.std.specs.Prelude.{Option}
+use Rattle.std.specs.Prelude.{Option, ℕ}
 use mathlib.Core.Path.{sym, ap, ◌∙◌}
 use lib.ListN.{length}
 use Rattle.parts.proofs.Places.{no_tone_law}

@@ -23,8 +23,6 @@ use Rattle.layout.specs.declared.RecordRead.{RecordRead}
 use Rattle.step.specs.InPlace.{bytes_after, step_if, step_at}
 use Rattle.press.specs.StepAndShow.{show_or, pressed_or, step_and_show}
 use Rattle.press.specs.declared.StepShown.{StepShown}
-use Rattle.press.specs.declared.ShownAnswer.{ShownAnswer}
-use Rattle.press.specs.declared.ShownAnswer.TheVariants.{Refused as ShownRefused}
 use Rattle.press.proofs.Shows.{refused_so}
 use Rattle.commit.specs.Rulings.{ruling_or, ruling_of}
 use Rattle.commit.specs.Rulings.{decided as ruled}
@@ -116,7 +114,7 @@ module _ (lent : List ℕ) (r : RecordRead) (e : r ≡ as_record lent) where
       ap (λ (y : RecordRead). of_record y.is_record (says (f y.word))) (sym e) ∙ ap (λ (b : Bool). of_record b (says (f r.word))) t ∙ ap says (sym p ∙ q)
 
   module _ (key : ℕ) (out : List ℕ) where
-    abbrev both : Word → ShownAnswer
+    abbrev both : Word → Result (Outcome × ℕ) Refusal
     both w = (step_and_show w key out).result.answer
 
     pub none_typed_shown : r.is_record ≡ false → Calls.type_and_show lent key out ≡ refused 8 0
@@ -124,7 +122,7 @@ module _ (lent : List ℕ) (r : RecordRead) (e : r ≡ as_record lent) where
     none_typed_shown n = none_said shown_says both n
 
     module _ (s : StepShown) (p : s ≡ (step_and_show r.word key out).result) where
-      pub typed_shown : r.is_record ≡ true → (a : ShownAnswer) → s.answer ≡ a → Calls.type_and_show lent key out ≡ shown_says a
+      pub typed_shown : r.is_record ≡ true → (a : Result (Outcome × ℕ) Refusal) → s.answer ≡ a → Calls.type_and_show lent key out ≡ shown_says a
       unfolding Calls.type_and_show
       typed_shown t a q = said shown_says both t s.answer a (ap (λ (x : StepShown). x.answer) p) q
 
@@ -174,15 +172,15 @@ module _ (lent : List ℕ) (r : RecordRead) (e : r ≡ as_record lent) where
   decided t a x p q = said decision_says Rules.decision_answer t a x p q
 
 -- typing and showing that is refused leaves the output
-pub refused_both : (w : Word) (key : ℕ) (out : List ℕ) (x : Refusal) → (step_and_show w key out).result.answer ≡ ShownRefused x → (step_and_show w key out).output ≡ out
+pub refused_both : (w : Word) (key : ℕ) (out : List ℕ) (x : Refusal) → (step_and_show w key out).result.answer ≡ Err x → (step_and_show w key out).output ≡ out
 unfolding step_and_show
 refused_both w key out x = by_step (Rules.step w key).answer (Rules.step w key).word
   where
-    by_show : (o : Outcome) (new : Word) (a : Result ℕ Refusal) → (Rules.show new out).answer ≡ a → (show_or a o w new).answer ≡ ShownRefused x → (Rules.show new out).output ≡ out
+    by_show : (o : Outcome) (new : Word) (a : Result ℕ Refusal) → (Rules.show new out).answer ≡ a → (show_or a o w new).answer ≡ Err x → (Rules.show new out).output ≡ out
     by_show o new (Ok n) p e = let z : ◌≡◌ {A = ℕ} 0 1 = cc in absurd (omega arith)
     by_show o new (Err y) p e = refused_show new out y (ap write_says p)
 
-    by_step : (a : Result Outcome Refusal) (new : Word) → (pressed_or a w new out).result.answer ≡ ShownRefused x → (pressed_or a w new out).output ≡ out
+    by_step : (a : Result Outcome Refusal) (new : Word) → (pressed_or a w new out).result.answer ≡ Err x → (pressed_or a w new out).output ≡ out
     by_step (Ok o) new e = by_show o new (Rules.show new out).answer refl e
     by_step (Err y) new e = refl
 

@@ -18,7 +18,6 @@ use Rattle.layout.proofs.RoundTrips.{read_whole}
 use Rattle.step.specs.InPlace.{step_at}
 use Rattle.step.proofs.StepsAt.{was_done, now_held}
 use Rattle.press.specs.StepAndShow.{step_and_show}
-use Rattle.press.specs.declared.ShownAnswer.TheVariants.{Did}
 use Rattle.press.proofs.Shows.{Then, did_so}
 
 -- the lent bytes once a key was taken: what is read of them is the new word
@@ -55,7 +54,7 @@ module _ (lent : List ℕ) (key : ℕ) (out : List ℕ) {o : Outcome} (d : (step
     few = simp length-take (omega (arith, few_letters new so.range))
 
     pub with_room : {n : ℕ} {after : List ℕ} → most_bytes ≤ length out → n ≡ length (text_of r.word letters) → after ≡ at_front (text_of r.word letters) out →
-        (record { answer = Did o n; word = new } ≡ (step_and_show w key out).result) × (after ≡ (step_and_show w key out).output)
+        (record { answer = Ok (o, n); word = new } ≡ (step_and_show w key out).result) × (after ≡ (step_and_show w key out).output)
     with_room {n} {after} h many b =
         let t = made_there (take (new.count - 0) new.letters) new.tone out few n h (many ∙ ap (λ (l : List ℕ). length l) same_text) after (b ∙ ap (λ (l : List ℕ). at_front l out) same_text) in
         (so.result (Ok n) (ap (λ (x : Written). x.answer) t), sym (ap (λ (x : Written). x.output) t) ∙ so.output)

@@ -1,5 +1,5 @@
 -- What each call of the box says, from the rules' whole answers and their numbers, and the lent bytes when it returns.
-use Rattle.std.specs.Prelude.{Bool, true, false, List, [], ◌∷◌, ℕ, ◌+◌, ◌*◌, Option, Some, None}
+use Rattle.std.specs.Prelude.{Bool, true, false, List, [], ◌∷◌, ℕ, ◌+◌, ◌*◌, Option, Some, None, Result, Ok, Err}
 use Rattle.rules.specs.AnswersInNumbers.{Says, refused, answered, refusing, outcome_numbers, decision_number, start_says, step_says, write_says, place_says, verdict_says, decision_says}
 use Rattle.rules.specs.Refusals.{refusal}
 use Rattle.rules.specs.Decision as Decided
@@ -8,9 +8,7 @@ use Rattle.rules.specs.declared.Refusal.{Refusal}
 use Rattle.rules.specs.declared.Decision.{Decision}
 use Rattle.layout.specs.Places.{is_long, as_record, record_written}
 use Rattle.press.specs.StepAndShow.{step_and_show}
-use Rattle.press.specs.declared.ShownAnswer.{ShownAnswer}
-use Rattle.press.specs.declared.ShownAnswer.TheVariants.{Did}
-use Rattle.press.specs.declared.ShownAnswer.TheVariants.{Refused as ShownRefused}
+use Rattle.rules.specs.declared.Outcome.{Outcome}
 
 -- 0 where the call is answered, else the refusal's number
 abbrev pub returned : Says → ℕ
@@ -61,9 +59,9 @@ abbrev pub type_word : List ℕ → ℕ → List ℕ
 type_word lent key = unless_refused (type lent key) (record_written (Rules.step (as_record lent).word key).word lent) lent
 
 -- the bytes written, and behind them what the key did
-abbrev pub shown_says : ShownAnswer → Says
-shown_says (Did o n) = answered (n ∷ outcome_numbers o)
-shown_says (ShownRefused r) = refusing r
+abbrev pub shown_says : Result (Outcome × ℕ) Refusal → Says
+shown_says (Ok (o, n)) = answered (n ∷ outcome_numbers o)
+shown_says (Err r) = refusing r
 
 -- what the key did, in one as `type` gives it; 0 where the call is refused
 abbrev pub did : Says → ℕ

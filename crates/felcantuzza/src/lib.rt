@@ -10,7 +10,6 @@ ghost use Rattle.felcantuzza.specs.Calls as Calls;
 ghost use Rattle.felcantuzza.specs.Recordings as Recordings;
 
 use commit::Ruling;
-use press::ShownAnswer;
 use recording::{KeyPress, Progress};
 use rules::{Act, Decision, Outcome, Refusal, Word};
 
@@ -124,13 +123,13 @@ fn type_and_show_short(
     let shown = press::press(w, key, out);
     let answer = shown.answer;
     match answer {
-        ShownAnswer::Did(what, bytes) => {
+        Ok((what, bytes)) => {
             let next = shown.word;
             layout::write(next, lent);
             *did = outcome_number(what);
             answered(bytes, value)
         }
-        ShownAnswer::Refused(refusal) => {
+        Err(refusal) => {
             *did = 0;
             refused(refusal, value)
         }

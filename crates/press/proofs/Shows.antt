@@ -19,7 +19,6 @@ use Rattle.rules.proofs.StaysInRange.{Whole, step_in_range}
 use Rattle.show.specs.Filling.{text_out}
 use Rattle.show.proofs.Answers.{shown_so}
 use Rattle.press.specs.StepAndShow.{Shown, show_or, pressed_or, step_and_show}
-use Rattle.press.specs.declared.ShownAnswer.TheVariants.{Refused}
 use Rattle.step.proofs.Steps.{out_of_range_law}
 
 module _ (w : Word) (k : ℕ) (out : List ℕ) (s : Step) (e : s ≡ step w k) where
@@ -27,7 +26,7 @@ module _ (w : Word) (k : ℕ) (out : List ℕ) (s : Step) (e : s ≡ step w k) w
   unfolding step_and_show
   by_step a d = ap₂ (λ (x : Result Outcome Refusal) (y : Word). pressed_or x w y out) (sym (ap (λ (x : Step). x.answer) e) ∙ d) (sym (ap (λ (x : Step). x.word) e))
 
-  pub refused_so : (x : Refusal) → s.answer ≡ Err x → (record { answer = Refused x; word = w } ≡ (step_and_show w k out).result) × (out ≡ (step_and_show w k out).output)
+  pub refused_so : (x : Refusal) → s.answer ≡ Err x → (record { answer = Err x; word = w } ≡ (step_and_show w k out).result) × (out ≡ (step_and_show w k out).output)
   refused_so x d = let p = by_step (Err x) d in (sym (ap (λ (y : Shown). y.result) p), sym (ap (λ (y : Shown). y.output) p))
 
   -- of a step that is done: the new word is in range, and what comes back is the text of its letters, put into the output
@@ -41,7 +40,7 @@ module _ (w : Word) (k : ℕ) (out : List ℕ) (s : Step) (e : s ≡ step w k) w
     was_in_range : (b : Bool) → out_of_range w ≡ b → T (not b)
     was_in_range false r = tt
     was_in_range true r =
-        let f : Ok o ≡ Err (record { number = 8; value = 0 }) = sym d ∙ ap (λ (x : Step). x.answer) (e ∙ sym (out_of_range_law w k r)) in
+        let f : ◌≡◌ {A = Result Outcome Refusal} (Ok o) (Err (record { number = 8; value = 0 })) = sym d ∙ ap (λ (x : Step). x.answer) (e ∙ sym (out_of_range_law w k r)) in
         let z : ◌≡◌ {A = ℕ} 0 1 = cc in
         absurd (omega arith)
 

@@ -6,16 +6,10 @@ ghost use Rattle.press.specs.StepAndShow.{step_and_show};
 
 use rules::{Outcome, Refusal, Word};
 
-// What typing a key and showing the word comes to: what the key did, with the bytes written.
-#[derive(Clone, Copy)]
-pub enum ShownAnswer {
-    Did(Outcome, usize),
-    Refused(Refusal),
-}
-
+// What typing a key and showing the word comes to: what the key did with the bytes written, or a refusal; and the word then.
 #[derive(Drop)]
 pub struct StepShown {
-    pub answer: ShownAnswer,
+    pub answer: Result<(Outcome, usize), Refusal>,
     pub word: Word,
 }
 
@@ -33,17 +27,17 @@ pub fn press(w: Word, key: u8, out: &mut [u8]) -> StepShown
             let count = next.count as usize;
             match show::text(&letters[0..count], next.tone, out) {
                 Ok(bytes) => StepShown {
-                    answer: ShownAnswer::Did(outcome, bytes),
+                    answer: Ok((outcome, bytes)),
                     word: next,
                 },
                 Err(refusal) => StepShown {
-                    answer: ShownAnswer::Refused(refusal),
+                    answer: Err(refusal),
                     word: w,
                 },
             }
         }
         Err(refusal) => StepShown {
-            answer: ShownAnswer::Refused(refusal),
+            answer: Err(refusal),
             word: w,
         },
     }

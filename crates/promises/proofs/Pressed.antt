@@ -1,5 +1,5 @@
 -- A key typed and the word shown, by the table: of a whole record, what `step_and_show` gives is refused by the first row that holds of one call with a record, a key and an output, and else done.
-use Rattle.std.specs.Prelude.{Option, Some, None, Result}
+use Rattle.std.specs.Prelude.{Option, Some, None, Result, Ok, Err}
 use mathlib.Core.Path.{◌≡◌, refl, sym, ap, ap₂, ◌∙◌}
 use mathlib.Core.Bool.{Bool, true, false}
 use mathlib.Core.List.{List, [], ◌∷◌}
@@ -22,7 +22,6 @@ use Rattle.rules.proofs.Records.{state_held}
 use Rattle.rules.proofs.Refused.{refusal_none}
 use Rattle.rules.proofs.StaysInRange.{Whole, state_fine, next, taken, step_in_range}
 use Rattle.press.specs.StepAndShow.{Shown, show_or, pressed_or, step_and_show}
-use Rattle.press.specs.declared.ShownAnswer.TheVariants.{Did, Refused}
 use Rattle.promises.specs.Box.{press_call}
 use Rattle.rules.specs.declared.Outcome.{Outcome}
 
@@ -50,8 +49,8 @@ module _ (w : Word) (k : ℕ) (out : List ℕ) where
   text = shown after.state
 
   abbrev pub pressed_by : Option Refusal → Shown
-  pressed_by None = record { result = record { answer = Did (outcome_of (key_does (word_of w) k)) (length text); word = holding w after }; output = at_front text out }
-  pressed_by (Some x) = record { result = record { answer = Refused x; word = w }; output = out }
+  pressed_by None = record { result = record { answer = Ok (outcome_of (key_does (word_of w) k), length text); word = holding w after }; output = at_front text out }
+  pressed_by (Some x) = record { result = record { answer = Err x; word = w }; output = out }
 
   abbrev no_room : Option Refusal
   no_room = elim (ltb (length out) (length text)) [ true ↦ Some (record { number = 4; value = length text }) | false ↦ None ]

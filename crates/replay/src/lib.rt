@@ -43,12 +43,6 @@ pub struct WordDone {
     pub appended: u8,
 }
 
-#[derive(Clone, Copy)]
-pub enum WordAnswer {
-    Committed(WordDone),
-    Refused(Refusal),
-}
-
 // The most that a word's line has: a text of 96 bytes, and a newline.
 pub const LINE: usize = 97;
 
@@ -71,12 +65,6 @@ struct Total {
 struct Found {
     written: usize,
     summary: Summary,
-}
-
-#[derive(Clone, Copy)]
-enum Passage {
-    Passed(Found),
-    Broken(Refusal),
 }
 
 // What is committed, the shown text of the letters or the keys, made at the front of the line itself: it has room for any text.
@@ -330,7 +318,7 @@ fn replay_from(recording: &[u8], begun: Begun, out: &mut [u8]) -> ReplayAnswer
                     value: needed,
                 });
             }
-            pass(recording, begun, out);
+            let _ = pass(recording, begun, out);
             let summary = found.summary;
             ReplayAnswer {
                 answer: Ok(needed),

@@ -62,7 +62,8 @@ fn typed_all(mode: u8, keys: &[u8]) -> Word
     layout::write(w, &mut bytes);
     let mut i = 0;
     while i < keys.len() {
-        step::step_at(&mut bytes, keys[i]);
+        // None is refused: the keys are few enough, and the mode allows them.
+        let _ = step::step_at(&mut bytes, keys[i]);
         i += 1;
     }
     let reading = layout::read(&bytes);

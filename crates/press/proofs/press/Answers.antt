@@ -13,12 +13,12 @@ slice_bounds-text-end c =
     let so = did_so w c.args.key c.args.out.now c.step-stepped.result c.step-stepped.ensures whole c.in-Ok.outcome c.in-Ok.is in
     omega (arith, few_letters c.step-stepped.result.word so.range, so.long)
 
-pub returns-in-Ok : goal.returns-in-Ok
-returns-in-Ok c =
+pub returns-in-Ok-text : goal.returns-in-Ok-text
+returns-in-Ok-text c =
     let w = c.args.w in
     let whole : Whole w = record { letters = omega arith; by = omega arith; shaped_by = omega arith; keys = omega arith } in
     let so = did_so w c.args.key c.args.out.now c.step-stepped.result c.step-stepped.ensures whole c.in-Ok.outcome c.in-Ok.is in
-    (so.result _ (sym c.text.ensures.0 ∙ c.in-Ok.is), c.text.ensures.1 ∙ so.output)
+    (so.result _ (sym c.text.ensures.0 ∙ c.in-Ok-text.is), c.text.ensures.1 ∙ so.output)
 
 pub returns-in-Err-text : goal.returns-in-Err-text
 returns-in-Err-text c =

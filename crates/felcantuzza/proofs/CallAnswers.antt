@@ -27,7 +27,7 @@ use Rattle.press.proofs.Shows.{refused_so}
 use Rattle.commit.specs.Rulings.{ruling_or, ruling_of}
 use Rattle.commit.specs.Rulings.{decided as ruled}
 use Rattle.commit.specs.declared.Ruling.{Ruling}
-use Rattle.commit.specs.declared.Ruling.TheVariants.{Keep, Restore, Refused}
+use Rattle.commit.specs.declared.Ruling.TheVariants.{Keep, Restore}
 use Rattle.felcantuzza.specs.Calls as Calls
 use Rattle.felcantuzza.specs.Calls.{returned, value_by, in_one, did, unless_refused, of_record, shown_says, commit_or}
 
@@ -185,16 +185,16 @@ refused_both w key out x = by_step (Rules.step w key).answer (Rules.step w key).
     by_step (Err y) new e = refl
 
 -- what commit's ruling says
-abbrev pub ruling_says : Ruling → Says
-ruling_says (Keep n) = answered (0 ∷ [])
-ruling_says Restore = answered (1 ∷ [])
-ruling_says (Refused r) = refusing r
+abbrev pub ruling_says : Result Ruling Refusal → Says
+ruling_says (Ok (Keep n)) = answered (0 ∷ [])
+ruling_says (Ok Restore) = answered (1 ∷ [])
+ruling_says (Err r) = refusing r
 
 by_decision : (d : Decision) (text : List ℕ) → answered (decision_number d ∷ []) ≡ ruling_says (ruled d text)
 by_decision Kept text = refl
 by_decision Restored text = refl
 
-pub committed : (mode : ℕ) (keys text : List ℕ) (a x : Ruling) → a ≡ ruling_of mode keys text → a ≡ x → Calls.commit mode keys text ≡ ruling_says x
+pub committed : (mode : ℕ) (keys text : List ℕ) (a x : Result Ruling Refusal) → a ≡ ruling_of mode keys text → a ≡ x → Calls.commit mode keys text ≡ ruling_says x
 unfolding Calls.commit ruling_of
 committed mode keys text a x p q = go (refusal (Rules.commit_call mode keys text)) ∙ ap ruling_says (sym p ∙ q)
   where

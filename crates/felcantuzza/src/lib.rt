@@ -245,9 +245,9 @@ pub fn fz_commit(mode: u8, keys: &[u8], text: &[u8], value: &mut usize) -> u8
     ensures { (result ≡ Calls.returned (Calls.commit mode keys.now text.now)) × (value.new ≡ Calls.value_by Calls.only_one (Calls.commit mode keys.now text.now)) }
 {
     match commit::rule(mode, keys, text) {
-        Ruling::Keep(_) => answered(0, value),
-        Ruling::Restore => answered(1, value),
-        Ruling::Refused(refusal) => refused(refusal, value),
+        Ok(Ruling::Keep(_)) => answered(0, value),
+        Ok(Ruling::Restore) => answered(1, value),
+        Err(refusal) => refused(refusal, value),
     }
 }
 

@@ -1,5 +1,5 @@
 -- The demands hold: `Demands` of specs/Demands.antt, by the laws on refusals and definitions, and the other files here.
-use Rattle.std.specs.Prelude.{Option, Some, None, Result}
+use Rattle.std.specs.Prelude.{Option, Some, None, Result, Ok, Err}
 use mathlib.Core.Path.{◌≡◌, refl, sym, ap, ◌∙◌}
 use mathlib.Core.List.{List, [], ◌∷◌}
 use mathlib.Core.Logic.{◌↔◌}
@@ -21,7 +21,7 @@ use Rattle.rules.specs.declared.Decision.TheVariants.{Keep, Restore}
 use Rattle.rules.proofs.Refused.{one_or_the_other, refusal_given, refusal_none, write_exactly, start_exactly, step_exactly, type_exactly, place_exactly, verdict_exactly, decision_exactly, commit_exactly}
 use Rattle.commit.specs.Rulings.{decided as ruling_from, ruling_or, ruling_of, handed_from}
 use Rattle.commit.specs.declared.Ruling.{Ruling}
-use Rattle.commit.specs.declared.Ruling.TheVariants.{Keep as RulingKeep, Restore as RulingRestore, Refused as RulingRefused}
+use Rattle.commit.specs.declared.Ruling.TheVariants.{Keep, Restore}
 use Rattle.output.specs.Front.{put}
 use Rattle.lines.specs.Programs.{line_answer}
 use Rattle.session.specs.declared.Session.{Session}
@@ -60,7 +60,7 @@ module _ {m : ℕ} {ks text part : List ℕ} (a : CommitAllows m ks text part) w
   unfolding ruling_of
   begins o n =
       a.post.1 ∙
-      ap (λ (r : Ruling). handed_from r a.args.1.0.ref_ptr a.args.1.1.0.ref_ptr) ((λ i. ruling_of (a.mode i) (a.keys i) (a.of_text i)) ∙ ap (λ (p : Option Refusal). ruling_or p m ks text) n)
+      ap (λ (r : Result Ruling Refusal). handed_from r a.args.1.0.ref_ptr a.args.1.1.0.ref_ptr) ((λ i. ruling_of (a.mode i) (a.keys i) (a.of_text i)) ∙ ap (λ (p : Option Refusal). ruling_or p m ks text) n)
 
   handed : (o : Option Refusal) → refusal (commit_call m ks text) ≡ o → part ≡ commit_or o m ks text
   unfolding commit
@@ -161,10 +161,10 @@ tight =
     }
 
 -- where both slices begin at one place, so does the part
-at_one_place : (r : Ruling) (p : ℕ × ℕ) → p ≡ handed_from r p p
-at_one_place (RulingKeep n) p = refl
-at_one_place RulingRestore p = refl
-at_one_place (RulingRefused x) p = refl
+at_one_place : (r : Result Ruling Refusal) (p : ℕ × ℕ) → p ≡ handed_from r p p
+at_one_place (Ok (Keep n)) p = refl
+at_one_place (Ok Restore) p = refl
+at_one_place (Err x) p = refl
 
 possible : Possible
 possible =

@@ -25,7 +25,7 @@ pub returns-then-not-same : goal.returns-then-not-same
 returns-then-not-same c =
     let w = c.args.w in
     let same = compared w c.requires c.in_room-n.result _ _ (lit≤ tt) c.in_room-n.ensures.0 c.in_room-n.ensures.1 c.args.text.now c.same.ensures in
-    c.refused.ensures ∙ other_text w c.args.text.now (same ∙ c.if-not-same.true)
+    other_text w c.args.text.now (same ∙ c.if-not-same.true)
 
 pub returns-in-Keep : goal.returns-in-Keep
 returns-in-Keep c =

@@ -9,7 +9,6 @@ use Rattle.replay.specs.Replays.{committed_line, Tally, if_kept, if_restored, no
 use Rattle.replay.specs.declared.Total.{Total}
 use Rattle.replay.specs.declared.Found.{Found}
 use Rattle.replay.specs.declared.WordDone.{WordDone}
-use Rattle.rules.specs.declared.Outcome.{Outcome}
 
 -- the numbers of a tally: of its text the length
 abbrev pub total_of : Tally → Total

@@ -258,27 +258,19 @@ fn pass(recording: &[u8], begun: Begun, out: &mut [u8]) -> Result<Found, Refusal
     let mut total = nothing_yet();
     loop {
         let step = recording::step_at(recording, at, progress);
-        let met = step.press;
-        match met {
-            Ok(Some(x)) => {
-                total = press(
-                    progress.mode,
-                    &mut keys,
-                    progress.in_word,
-                    x.key,
-                    total,
-                    out,
-                );
-                at = step.at;
-                progress = step.progress;
-            }
-            Ok(None) => {
-                break;
-            }
-            Err(refusal) => {
-                return Err(refusal);
-            }
-        }
+        let Some(x) = step.press? else {
+            break;
+        };
+        total = press(
+            progress.mode,
+            &mut keys,
+            progress.in_word,
+            x.key,
+            total,
+            out,
+        );
+        at = step.at;
+        progress = step.progress;
     }
     let n = progress.in_word;
     total = add_last(progress.mode, &keys[0..n], total, out);

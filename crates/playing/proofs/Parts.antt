@@ -53,17 +53,17 @@ module _ (s v rest : List ℕ) (start : ℕ) (part : IsPart s start v rest) wher
               same_number (at + t.groups) (ends_within v at t (sym e)) (five (at + t.groups) (omega (arith, (number_within (drop at v) t e).2)))
 
           module _ (k : Number) (f : number (drop (at + t.groups) v) ≡ Some k) where
-            time_says : Some t ≡ (number (drop at v))
+            time_says : Some t ≡ number (drop at v)
             time_says = sym e
 
-            time_says_all : Some t ≡ (number (drop (start + at) s))
-            time_says_all = sym (ap answer_of time_all)
+            time_says_all : Some t ≡ number (drop (start + at) s)
+            time_says_all = sym time_all
 
-            key_says : Some k ≡ (number (drop (at + t.groups) v))
+            key_says : Some k ≡ number (drop (at + t.groups) v)
             key_says = sym f
 
-            key_says_all : Some k ≡ (number (drop (start + at + t.groups) s))
-            key_says_all = sym ((key_all ∙ f))
+            key_says_all : Some k ≡ number (drop (start + at + t.groups) s)
+            key_says_all = sym (key_all ∙ f)
 
             by_tests : (x y z : Bool) → word_full p k.value ≡ x → not_allowed p k.value ≡ y → too_long p t.value ≡ z → Same
             by_tests true y z full b c =
@@ -84,7 +84,7 @@ module _ (s v rest : List ℕ) (start : ℕ) (part : IsPart s start v rest) wher
 
           by_key : (o : Option Number) → number (drop (at + t.groups) v) ≡ o → Same
           by_key None f =
-              sym (no_key s (start + at) p t inside_all (sym (ap answer_of time_all)) (sym ((key_all ∙ f)))) ∙ ap (λ (j : ℕ). refused_step 10 j (start + at) p) (more_behind t.groups) ∙
+              sym (no_key s (start + at) p t inside_all (sym time_all) (sym (key_all ∙ f))) ∙ ap (λ (j : ℕ). refused_step 10 j (start + at) p) (more_behind t.groups) ∙
               ap (later start) (no_key v at p t inside (sym e) (sym f))
           by_key (Some k) f = by_tests k f (word_full p k.value) (not_allowed p k.value) (too_long p t.value) refl refl refl
 

@@ -5,7 +5,8 @@ ghost use Rattle.recording.specs.Recordings.{step_at, begin as begin_of};
 ghost use Rattle.playing.specs.Parts.{IsPart, Enough, ReadOn, shown_in, short, later};
 
 use crate::{Read, Window, least, say};
-use recording::{Progress, Stepped};
+use recording::{Begun, Progress, Stepped};
+use rules::Refusal;
 use std::io::Read as _;
 
 // A step is two numbers, each of at most five bytes.

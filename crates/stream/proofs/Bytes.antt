@@ -1,5 +1,5 @@
 -- What one byte does, by its tests: kept, or the line answered, or stuck.
-use Rattle.std.specs.Prelude.{Ok, Err}
+use Rattle.std.specs.Prelude.{Ok, Err, Result}
 use mathlib.Core.Path.{◌≡◌, refl, sym, ap, ap₂, ◌∙◌}
 use mathlib.Core.Bool.{Bool, true, false}
 use mathlib.Core.List.{List, [], ◌∷◌, ◌++◌, append-nil}
@@ -75,7 +75,7 @@ module _ (text out : List ℕ) where
           let f : Ok (length text) ≡ Ok n = sym (ap (λ (y : Written). y.answer) g) ∙ e in
           record { test = d; many = cc; output = ap (λ (y : Written). y.output) g }
       go false d =
-          let f : Err (record { number = 4; value = length text }) ≡ Ok n = sym (ap (λ (y : Written). y.answer) (too_long text out (leb-false (length text) (length out) d))) ∙ e in
+          let f : ◌≡◌ {A = Result ℕ Refusal} (Err (record { number = 4; value = length text })) (Ok n) = sym (ap (λ (y : Written). y.answer) (too_long text out (leb-false (length text) (length out) d))) ∙ e in
           let z : ◌≡◌ {A = ℕ} 0 1 = cc in
           absurd (omega arith)
 

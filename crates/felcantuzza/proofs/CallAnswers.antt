@@ -1,5 +1,5 @@
 -- What each call says of bytes that are no record, and of a record; what it then returns, writes as its value and leaves in lent bytes.
-use Rattle.std.specs.Prelude.{Option, Some, None, Result, Ok, Err, ⊤}
+use Rattle.std.specs.Prelude.{Option, Some, None, Result, Ok, Err, ⊤, is_some}
 use mathlib.Core.Path.{◌≡◌, refl, sym, ap, ap₂, ◌∙◌}
 use mathlib.Core.Bool.{Bool, true, false}
 use mathlib.Core.List.{List, [], ◌∷◌}
@@ -18,8 +18,7 @@ use Rattle.rules.specs.declared.Outcome.{Outcome}
 use Rattle.rules.specs.declared.Decision.{Decision}
 use Rattle.rules.specs.declared.Decision.TheVariants.{Keep as Kept, Restore as Restored}
 use Rattle.rules.proofs.Refused.{refused_show}
-use Rattle.layout.specs.Places.{as_record, record_written}
-use Rattle.layout.specs.declared.RecordRead.{RecordRead}
+use Rattle.layout.specs.Places.{as_record, record_written, is_record, held, or_new}
 use Rattle.step.specs.InPlace.{bytes_after, step_if, step_at}
 use Rattle.press.specs.StepAndShow.{show_or, pressed_or, step_and_show}
 use Rattle.press.specs.declared.StepShown.{StepShown}
@@ -71,103 +70,103 @@ module _ (mode : ℕ) (lent : List ℕ) where
 module _ (lent : List ℕ) (key : ℕ) where
   pub typed : {a x : Result Outcome Refusal} → a ≡ (step_at lent key).answer → a ≡ x → Calls.type lent key ≡ step_says x
   unfolding Calls.type step_at
-  typed p q = go (as_record lent).is_record ∙ ap step_says (sym p ∙ q)
+  typed p q = go (is_record lent) ∙ ap step_says (sym p ∙ q)
     where
-      go : (b : Bool) → of_record b (step_says (Rules.step (as_record lent).word key).answer) ≡ step_says (step_if b (as_record lent).word key lent).answer
+      go : (b : Bool) → of_record b (step_says (Rules.step (held lent) key).answer) ≡ step_says (step_if b (held lent) key lent).answer
       go true = refl
       go false = refl
 
   pub typed_bytes : (step_at lent key).bytes ≡ Calls.type_word lent key
   unfolding Calls.type step_at
-  typed_bytes = go (as_record lent).is_record
+  typed_bytes = go (is_record lent)
     where
       new : Word
-      new = (Rules.step (as_record lent).word key).word
+      new = (Rules.step (held lent) key).word
 
       by_answer : (a : Result Outcome Refusal) → bytes_after a new lent ≡ unless_refused (step_says a) (record_written new lent) lent
       by_answer (Ok o) = refl
       by_answer (Err x) = refl
 
-      go : (b : Bool) → (step_if b (as_record lent).word key lent).bytes ≡ unless_refused (of_record b (step_says (Rules.step (as_record lent).word key).answer)) (record_written new lent) lent
-      go true = by_answer (Rules.step (as_record lent).word key).answer
+      go : (b : Bool) → (step_if b (held lent) key lent).bytes ≡ unless_refused (of_record b (step_says (Rules.step (held lent) key).answer)) (record_written new lent) lent
+      go true = by_answer (Rules.step (held lent) key).answer
       go false = refl
 
   -- and shown: where the key is refused
   pub refused_at : (out : List ℕ) (x : Refusal) → (step_at lent key).answer ≡ Err x → Calls.type_and_show lent key out ≡ refusing x
   unfolding Calls.type_and_show step_at
-  refused_at out x = go (as_record lent).is_record
+  refused_at out x = go (is_record lent)
     where
       w : Word
-      w = (as_record lent).word
+      w = (held lent)
 
       go : (b : Bool) → (step_if b w key lent).answer ≡ Err x → of_record b (shown_says (step_and_show w key out).result.answer) ≡ refusing x
       go true e = sym (ap (λ (y : StepShown). shown_says y.answer) (refused_so w key out (Rules.step w key) refl x e).0)
       go false e = ap step_says e
 
 -- calls on a record that is read from the lent bytes
-module _ (lent : List ℕ) (r : RecordRead) (e : r ≡ as_record lent) where
-  none_said : {A : Type 0} (says : A → Says) (f : Word → A) → r.is_record ≡ false → of_record (as_record lent).is_record (says (f (as_record lent).word)) ≡ refused 8 0
-  none_said says f n = ap (λ (b : Bool). of_record b (says (f (as_record lent).word))) (sym (ap (λ (x : RecordRead). x.is_record) e) ∙ n)
+module _ (lent : List ℕ) (r : Option Word) (e : r ≡ as_record lent) where
+  none_said : {A : Type 0} (says : A → Says) (f : Word → A) → (is_some r) ≡ false → of_record (is_record lent) (says (f (held lent))) ≡ refused 8 0
+  none_said says f n = ap (λ (b : Bool). of_record b (says (f (held lent)))) (sym (ap (λ (x : Option Word). (is_some x)) e) ∙ n)
 
-  said : {A : Type 0} (says : A → Says) (f : Word → A) → r.is_record ≡ true → (a x : A) → a ≡ f r.word → a ≡ x → of_record (as_record lent).is_record (says (f (as_record lent).word)) ≡ says x
+  said : {A : Type 0} (says : A → Says) (f : Word → A) → (is_some r) ≡ true → (a x : A) → a ≡ f (or_new r) → a ≡ x → of_record (is_record lent) (says (f (held lent))) ≡ says x
   said says f t a x p q =
-      ap (λ (y : RecordRead). of_record y.is_record (says (f y.word))) (sym e) ∙ ap (λ (b : Bool). of_record b (says (f r.word))) t ∙ ap says (sym p ∙ q)
+      ap (λ (y : Option Word). of_record (is_some y) (says (f (or_new y)))) (sym e) ∙ ap (λ (b : Bool). of_record b (says (f (or_new r)))) t ∙ ap says (sym p ∙ q)
 
   module _ (key : ℕ) (out : List ℕ) where
     abbrev both : Word → Result (Outcome × ℕ) Refusal
     both w = (step_and_show w key out).result.answer
 
-    pub none_typed_shown : r.is_record ≡ false → Calls.type_and_show lent key out ≡ refused 8 0
+    pub none_typed_shown : (is_some r) ≡ false → Calls.type_and_show lent key out ≡ refused 8 0
     unfolding Calls.type_and_show
     none_typed_shown n = none_said shown_says both n
 
-    module _ (s : StepShown) (p : s ≡ (step_and_show r.word key out).result) where
-      pub typed_shown : r.is_record ≡ true → (a : Result (Outcome × ℕ) Refusal) → s.answer ≡ a → Calls.type_and_show lent key out ≡ shown_says a
+    module _ (s : StepShown) (p : s ≡ (step_and_show (or_new r) key out).result) where
+      pub typed_shown : (is_some r) ≡ true → (a : Result (Outcome × ℕ) Refusal) → s.answer ≡ a → Calls.type_and_show lent key out ≡ shown_says a
       unfolding Calls.type_and_show
       typed_shown t a q = said shown_says both t s.answer a (ap (λ (x : StepShown). x.answer) p) q
 
-      pub typed_shown_word : record_written s.word lent ≡ record_written (step_and_show (as_record lent).word key out).result.word lent
-      typed_shown_word = ap (λ (x : StepShown). record_written x.word lent) (p ∙ ap (λ (y : RecordRead). (step_and_show y.word key out).result) e)
+      pub typed_shown_word : record_written s.word lent ≡ record_written (step_and_show (held lent) key out).result.word lent
+      typed_shown_word = ap (λ (x : StepShown). record_written x.word lent) (p ∙ ap (λ (y : Option Word). (step_and_show (or_new y) key out).result) e)
 
-    pub typed_shown_output : (step_and_show r.word key out).output ≡ (step_and_show (as_record lent).word key out).output
-    typed_shown_output = ap (λ (y : RecordRead). (step_and_show y.word key out).output) e
+    pub typed_shown_output : (step_and_show (or_new r) key out).output ≡ (step_and_show (held lent) key out).output
+    typed_shown_output = ap (λ (y : Option Word). (step_and_show (or_new y) key out).output) e
 
   module _ (out : List ℕ) where
     abbrev shows : Word → Result ℕ Refusal
     shows w = (Rules.show w out).answer
 
-    pub none_shown : r.is_record ≡ false → Calls.show lent out ≡ refused 8 0
+    pub none_shown : (is_some r) ≡ false → Calls.show lent out ≡ refused 8 0
     unfolding Calls.show
     none_shown n = none_said write_says shows n
 
-    pub shown : r.is_record ≡ true → (a x : Result ℕ Refusal) → a ≡ (Rules.show r.word out).answer → a ≡ x → Calls.show lent out ≡ write_says x
+    pub shown : (is_some r) ≡ true → (a x : Result ℕ Refusal) → a ≡ (Rules.show (or_new r) out).answer → a ≡ x → Calls.show lent out ≡ write_says x
     unfolding Calls.show
     shown t a x p q = said write_says shows t a x p q
 
-    pub shown_output : (Rules.show r.word out).output ≡ (Rules.show (as_record lent).word out).output
-    shown_output = ap (λ (y : RecordRead). (Rules.show y.word out).output) e
+    pub shown_output : (Rules.show (or_new r) out).output ≡ (Rules.show (held lent) out).output
+    shown_output = ap (λ (y : Option Word). (Rules.show (or_new y) out).output) e
 
-  pub none_judged : r.is_record ≡ false → Calls.verdict lent ≡ refused 8 0
+  pub none_judged : (is_some r) ≡ false → Calls.verdict lent ≡ refused 8 0
   unfolding Calls.verdict
   none_judged n = none_said verdict_says Rules.verdict_answer n
 
-  pub judged : r.is_record ≡ true → (a x : Result ℕ Refusal) → a ≡ Rules.verdict_answer r.word → a ≡ x → Calls.verdict lent ≡ verdict_says x
+  pub judged : (is_some r) ≡ true → (a x : Result ℕ Refusal) → a ≡ Rules.verdict_answer (or_new r) → a ≡ x → Calls.verdict lent ≡ verdict_says x
   unfolding Calls.verdict
   judged t a x p q = said verdict_says Rules.verdict_answer t a x p q
 
-  pub none_placed : r.is_record ≡ false → Calls.place lent ≡ refused 8 0
+  pub none_placed : (is_some r) ≡ false → Calls.place lent ≡ refused 8 0
   unfolding Calls.place
   none_placed n = none_said place_says Rules.place_answer n
 
-  pub placed : r.is_record ≡ true → (a x : Result (Option ℕ) Refusal) → a ≡ Rules.place_answer r.word → a ≡ x → Calls.place lent ≡ place_says x
+  pub placed : (is_some r) ≡ true → (a x : Result (Option ℕ) Refusal) → a ≡ Rules.place_answer (or_new r) → a ≡ x → Calls.place lent ≡ place_says x
   unfolding Calls.place
   placed t a x p q = said place_says Rules.place_answer t a x p q
 
-  pub none_decided : r.is_record ≡ false → Calls.decision lent ≡ refused 8 0
+  pub none_decided : (is_some r) ≡ false → Calls.decision lent ≡ refused 8 0
   unfolding Calls.decision
   none_decided n = none_said decision_says Rules.decision_answer n
 
-  pub decided : r.is_record ≡ true → (a x : Result Decision Refusal) → a ≡ Rules.decision_answer r.word → a ≡ x → Calls.decision lent ≡ decision_says x
+  pub decided : (is_some r) ≡ true → (a x : Result Decision Refusal) → a ≡ Rules.decision_answer (or_new r) → a ≡ x → Calls.decision lent ≡ decision_says x
   unfolding Calls.decision
   decided t a x p q = said decision_says Rules.decision_answer t a x p q
 

@@ -1,5 +1,5 @@
 -- The calls of the box: what their contracts allow is the answer, or the refusal that the table gives, with the lent bytes as they were; and it is one result, and possible.
-use Rattle.std.specs.Prelude.{Option, Some, None}
+use Rattle.std.specs.Prelude.{Option, Some, None, is_some}
 use mathlib.Core.Path.{◌≡◌, refl, sym, ap, ◌∙◌}
 use mathlib.Core.Bool.{Bool, true, false, ◌&&◌}
 use mathlib.Core.List.{List, []}
@@ -52,7 +52,7 @@ long : (lent : List ℕ) → T (is_record lent) → T (is_long lent)
 unfolding as_record
 long lent = go (is_long lent) (is_mark (byte 3 lent))
   where
-    go : (p q : Bool) → T (record_if (p && q) lent).is_record → T p
+    go : (p q : Bool) → T (is_some (record_if (p && q) lent)) → T p
     go true q t = tt
     go false q t = t
 

@@ -15,7 +15,7 @@ use Rattle.rules.specs.WhatComesBack.{start_call, step_call, typed, show_call, w
 use Rattle.rules.specs.AnswersInNumbers.{outcome_numbers, place_numbers, decision_number}
 use Rattle.rules.specs.declared.Word.{Word}
 use Rattle.rules.specs.declared.Refusal.{Refusal}
-use Rattle.layout.specs.Places.{as_bytes, as_record, is_long}
+use Rattle.layout.specs.Places.{as_bytes, is_long, is_record, held}
 use Rattle.felcantuzza.specs.Calls.{in_one, placed}
 use Rattle.felcantuzza.specs.contracts.fz_start as fz-start
 use Rattle.felcantuzza.proofs.fz_start.Reads as fz-start-reads
@@ -133,10 +133,10 @@ pub record OnBytes {R : Type 0} (is_record : Bool) (c : Call) (came_back answer 
 
 -- the word that lent bytes hold, where they are a record
 abbrev pub held : List ℕ → Word
-held lent = (as_record lent).word
+held lent = (held lent)
 
 abbrev pub is_record : List ℕ → Bool
-is_record lent = (as_record lent).is_record
+is_record lent = (is_record lent)
 
 -- a key typed and the word shown, as one call: a record, a key, and an output for the text after it
 abbrev pub press_call : Word → ℕ → List ℕ → Call

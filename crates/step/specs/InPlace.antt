@@ -7,7 +7,7 @@ use Rattle.rules.specs.WhatComesBack.{step}
 use Rattle.rules.specs.declared.Word.{Word}
 use Rattle.rules.specs.declared.Outcome.{Outcome}
 use Rattle.rules.specs.declared.Step.{Step}
-use Rattle.layout.specs.Places.{mark_byte, bytes_with, byte, part, as_record, record_written}
+use Rattle.layout.specs.Places.{mark_byte, bytes_with, byte, part, record_written, is_record, held}
 use Rattle.records.specs.Numbers.{word_in}
 use Rattle.records.specs.declared.Numbers.{Numbers}
 use Rattle.rules.specs.declared.Refusal.{Refusal}
@@ -34,7 +34,7 @@ step_if true w key old = leaving (step w key) old
 step_if false w key old = record { answer = refused_with 8 0; bytes = old }
 
 unfoldable pub step_at : List ℕ → ℕ → SteppedAt
-step_at lent key = step_if (as_record lent).is_record (as_record lent).word key lent
+step_at lent key = step_if (is_record lent) (held lent) key lent
 
 -- a key that is not taken: 2 where the word is full, else 3
 abbrev pub not_taken : ℕ → Result Outcome Refusal

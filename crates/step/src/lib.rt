@@ -311,11 +311,9 @@ fn not_taken(at: usize) -> Result<Outcome, Refusal>
 pub fn step_at(lent: &mut [u8], key: u8) -> Result<Outcome, Refusal>
     ensures { (result ≡ (step_at_of lent.old key).answer) × (lent.new ≡ (step_at_of lent.old key).bytes) }
 {
-    let reading = layout::read(lent);
-    if !reading.is_record {
+    let Some(w) = layout::read(lent) else {
         return refused(8, 0);
-    }
-    let w = reading.word;
+    };
     let mode = w.mode;
     let n = records::numbers_of(w);
     let appended_by = w.appended_by;

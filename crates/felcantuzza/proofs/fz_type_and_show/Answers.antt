@@ -1,6 +1,6 @@
 -- `felcantuzza::fz_type_and_show` meets its contract: into a short output by its own function; else typed where the bytes lie and shown, or refused.
 use mathlib.Core.Path.{refl, sym, ap, ◌∙◌}
-use Rattle.layout.specs.Places.{as_record, record_written}
+use Rattle.layout.specs.Places.{as_record, record_written, held}
 use Rattle.step.proofs.StepsAt.{as_it_was, was_record, now_written}
 use Rattle.press.specs.StepAndShow.{step_and_show}
 use Rattle.press.specs.declared.StepShown.{StepShown}
@@ -22,7 +22,7 @@ returns-in-Ok c =
     let d = sym c.step_at-answer.ensures.0 ∙ c.in-Ok.is in
     let both = with_room lent args.key out d c.step_at-answer.ensures.1 c.read-reading.ensures c.letters_of-letters.ensures c.if-out-lt-TEXT.false c.in_room.ensures.0 c.in_room.ensures.1 in
     let said = Calls.type_and_show lent args.key out in
-    let all = (step_and_show (as_record lent).word args.key out).result in
+    let all = (step_and_show (held lent) args.key out).result in
     let e = typed_shown lent (as_record lent) refl args.key out all refl (was_record lent args.key d) _ (sym (ap (λ (x : StepShown). x.answer) both.0)) in
     let t = tells Calls.only_one said _ e c.answered.ensures.0 c.answered.ensures.1 in (
       t.0,

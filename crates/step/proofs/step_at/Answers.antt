@@ -1,4 +1,5 @@
 -- `step::step_at` meets its contract: no record, each answer by the row of its test, or the key typed.
+use Rattle.std.specs.Prelude.{is_some, Option}
 use mathlib.Core.Path.{◌≡◌, sym, ap, subst, ◌∙◌}
 use mathlib.Core.Bool.{false, not}
 use mathlib.Core.List.{List}
@@ -8,17 +9,17 @@ use lib.ListN.{length}
 use borrow.Author.Tests.{not-true, not-false}
 use Rattle.rules.specs.Refusals.{out_of_range}
 use Rattle.rules.proofs.StaysInRange.{Whole}
-use Rattle.layout.specs.declared.RecordRead.{RecordRead}
 use Rattle.layout.proofs.RoundTrips.{read_whole}
 use Rattle.records.specs.declared.Numbers.{Numbers}
 use Rattle.records.proofs.Conditions.{out_by_numbers, at_most, out_by_keys, out_by_letters}
 use Rattle.step.proofs.Steps.{out_of_range_law}
 use Rattle.step.proofs.StepsAt.{no_record, refuses, takes_none, takes_it, held, ready_at, types}
 use Rattle.step.proofs.step_at.Goals as goal
+use Rattle.rules.specs.declared.Word.{Word}
 
 pub returns-then-not-reading : goal.returns-then-not-reading
 returns-then-not-reading c =
-    no_record c.args.lent.now c.args.key (sym (ap (λ (x : RecordRead). x.is_record) c.read-reading.ensures) ∙ not-true _ c.if-not-reading.true) c.refused.ensures
+    no_record c.args.lent.now c.args.key (sym (ap (λ (x : Option Word). (is_some x)) c.read-reading.ensures) ∙ not-true _ c.if-not-reading.true) c.refused.ensures
 
 pub returns-then-numbers_wrong-places_wrong : goal.returns-then-numbers_wrong-places_wrong
 returns-then-numbers_wrong-places_wrong c =
@@ -31,7 +32,7 @@ pub slice_bounds-keys_allowed-end : goal.slice_bounds-keys_allowed-end
 slice_bounds-keys_allowed-end c =
     let bs = c.args.lent.now in
     let w = c.read-reading.result.word in
-    let whole : Whole w = subst (λ (x : RecordRead). Whole x.word) (sym c.read-reading.ensures) (read_whole bs) in
+    let whole : Whole w = subst (λ (x : Option Word). Whole (or_new x)) (sym c.read-reading.ensures) (read_whole bs) in
     omega (arith, whole.keys, (at_most w c.numbers_of-n.result c.numbers_of-n.ensures c.numbers_wrong.ensures c.places_wrong.ensures c.if-numbers_wrong-places_wrong.false).0)
 
 pub returns-then-not-keys_allowed : goal.returns-then-not-keys_allowed
@@ -52,7 +53,7 @@ pub returns-then-not-letters_allowed : goal.returns-then-not-letters_allowed
 returns-then-not-letters_allowed c =
     let bs = c.args.lent.now in
     let w = c.read-reading.result.word in
-    let own : c.letters_of-letters.result ≡ w.letters = c.letters_of-letters.ensures ∙ sym (ap (λ (x : RecordRead). x.word.letters) c.read-reading.ensures) in
+    let own : c.letters_of-letters.result ≡ w.letters = c.letters_of-letters.ensures ∙ sym (ap (λ (x : Option Word). (or_new x).letters) c.read-reading.ensures) in
     refuses bs c.args.key c.read-reading.result c.read-reading.ensures (not-false _ c.if-not-reading.false) 8 0 c.refused-then-not-letters_allowed.ensures
     (out_of_range_law w c.args.key
     (out_by_letters w c.numbers_of-n.result c.numbers_of-n.ensures c.numbers_wrong.ensures c.places_wrong.ensures c.if-numbers_wrong-places_wrong.false c.keys_allowed.ensures c.if-not-keys_allowed.false own c.letters_allowed.ensures ∙ ap not c.if-not-letters_allowed.true))
@@ -61,7 +62,7 @@ pub returns-then-at-is_key : goal.returns-then-at-is_key
 returns-then-at-is_key c =
     let bs = c.args.lent.now in
     let w = c.read-reading.result.word in
-    let own : c.letters_of-letters.result ≡ w.letters = c.letters_of-letters.ensures ∙ sym (ap (λ (x : RecordRead). x.word.letters) c.read-reading.ensures) in
+    let own : c.letters_of-letters.result ≡ w.letters = c.letters_of-letters.ensures ∙ sym (ap (λ (x : Option Word). (or_new x).letters) c.read-reading.ensures) in
     let range : out_of_range w ≡ false =
     out_by_letters w c.numbers_of-n.result c.numbers_of-n.ensures c.numbers_wrong.ensures c.places_wrong.ensures c.if-numbers_wrong-places_wrong.false c.keys_allowed.ensures c.if-not-keys_allowed.false own
     c.letters_allowed.ensures ∙ ap not c.if-not-letters_allowed.false in
@@ -72,7 +73,7 @@ pub typed-outcome-requires : goal.typed-outcome-requires
 typed-outcome-requires c =
     let bs = c.args.lent.now in
     let w = c.read-reading.result.word in
-    let own : c.letters_of-letters.result ≡ w.letters = c.letters_of-letters.ensures ∙ sym (ap (λ (x : RecordRead). x.word.letters) c.read-reading.ensures) in
+    let own : c.letters_of-letters.result ≡ w.letters = c.letters_of-letters.ensures ∙ sym (ap (λ (x : Option Word). (or_new x).letters) c.read-reading.ensures) in
     let range : out_of_range w ≡ false =
     out_by_letters w c.numbers_of-n.result c.numbers_of-n.ensures c.numbers_wrong.ensures c.places_wrong.ensures c.if-numbers_wrong-places_wrong.false c.keys_allowed.ensures c.if-not-keys_allowed.false own
     c.letters_allowed.ensures ∙ ap not c.if-not-letters_allowed.false in
@@ -84,6 +85,6 @@ pub returns : goal.returns
 returns c =
     let bs = c.args.lent.now in
     let w = c.read-reading.result.word in
-    let whole : Whole w = subst (λ (x : RecordRead). Whole x.word) (sym c.read-reading.ensures) (read_whole bs) in
+    let whole : Whole w = subst (λ (x : Option Word). Whole (or_new x)) (sym c.read-reading.ensures) (read_whole bs) in
     let same = held bs c.args.key c.read-reading.result c.read-reading.ensures (not-false _ c.if-not-reading.false) c.numbers_of-n.result c.numbers_of-n.ensures c.letters_of-letters.ensures in
     types bs c.args.key c.read-reading.result c.read-reading.ensures (not-false _ c.if-not-reading.false) whole same c.typed-outcome.ensures c.put_letters.ensures

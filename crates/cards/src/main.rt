@@ -4,9 +4,7 @@
 
 ghost use Rattle.std.specs.Prelude.{◌≤◌, length};
 
-use rules::{
-    Decision, DecisionAnswer, Place, PlaceAnswer, TypeAnswer, VerdictAnswer, Word, WriteAnswer,
-};
+use rules::{Decision, Word};
 use std::io;
 use std::io::Read;
 use std::process::ExitCode;
@@ -35,7 +33,7 @@ fn put_refused(rt: &HostRuntime, number: u8, value: usize) -> io::Result<()> {
 // The shown text, and what commit hands back for it.
 fn put_texts(rt: &HostRuntime, mode: u8, keys: &[u8], w: Word) -> io::Result<()> {
     let mut shown = [0; Word::TEXT];
-    let WriteAnswer::Wrote(n) = show::show(w, &mut shown) else {
+    let Ok(n) = show::show(w, &mut shown) else {
         return put(rt, b"!");
     };
     let text = &shown[0..n];
@@ -45,24 +43,24 @@ fn put_texts(rt: &HostRuntime, mode: u8, keys: &[u8], w: Word) -> io::Result<()>
 }
 
 fn put_verdict(rt: &HostRuntime, w: Word) -> io::Result<()> {
-    let VerdictAnswer::Judged(verdict) = word::verdict(w) else {
+    let Ok(verdict) = word::verdict(w) else {
         return put(rt, b"!");
     };
     put_number(rt, verdict as usize)
 }
 
 fn put_place(rt: &HostRuntime, w: Word) -> io::Result<()> {
-    let PlaceAnswer::Found(place) = word::place(w) else {
+    let Ok(place) = word::place(w) else {
         return put(rt, b"!");
     };
-    let Place::At(n) = place else {
+    let Some(n) = place else {
         return put(rt, b" -");
     };
     put_number(rt, n)
 }
 
 fn put_decision(rt: &HostRuntime, w: Word) -> io::Result<()> {
-    let DecisionAnswer::Decided(decision) = word::decision(w) else {
+    let Ok(decision) = word::decision(w) else {
         return put(rt, b"!");
     };
     let letter = match decision {
@@ -102,7 +100,7 @@ fn stepped(mode: u8, keys: &[u8]) -> Word {
 fn answer(rt: &HostRuntime, mode: u8, keys: &[u8]) -> io::Result<()> {
     let all = word::type_all(mode, keys);
     let typed = all.answer;
-    if let TypeAnswer::Refused(r) = typed {
+    if let Err(r) = typed {
         return put_refused(rt, r.number, r.value);
     }
     put_word(rt, mode, keys, stepped(mode, keys))

@@ -1,4 +1,5 @@
 -- The ruling by its tests, in the order in which the code asks them, and what the code makes of a word in range.
+use Rattle.std.specs.Prelude.{Ok, Err}
 use mathlib.Core.Path.{◌≡◌, refl, sym, ap, subst, ◌∙◌}
 use mathlib.Core.Bool.{Bool, true, false, not, ◌&&◌}
 use mathlib.Core.List.{List, [], ◌∷◌, map}
@@ -17,9 +18,6 @@ use Rattle.rules.specs.Refusals.{all, is_mode, same_bytes, allowed_before, out_o
 use Rattle.rules.specs.WhatComesBack.{typed, type_all, Written, show}
 use Rattle.rules.specs.declared.Word.{Word}
 use Rattle.rules.specs.declared.Refusal.{Refusal}
-use Rattle.rules.specs.declared.TypeAnswer.TheVariants.{AllTyped}
-use Rattle.rules.specs.declared.TypeAnswer.TheVariants.{Refused as TypeRefused}
-use Rattle.rules.specs.declared.WriteAnswer.TheVariants.{Wrote}
 use Rattle.rules.specs.declared.Decision.{Decision}
 use Rattle.rules.specs.declared.Decision.TheVariants.{Keep as Kept, Restore as Restored}
 use Rattle.rules.proofs.NotRefused.{so_long, its_front, typed_word}
@@ -63,16 +61,16 @@ module _ (w : Word) where
 
   module _ (range : out_of_range w ≡ false) where
     module _ (n : ℕ) (old buffer : List ℕ) (room : most_bytes ≤ length old) (many : n ≡ length (room_text lent w.tone old)) (made : buffer ≡ at_front (room_text lent w.tone old) old) where
-      shows : record { answer = Wrote n; output = buffer } ≡ show w old
+      shows : record { answer = Ok n; output = buffer } ≡ show w old
       shows =
           let few : length lent ≤ most_keys = simp length-take (omega (arith, few_letters w range)) in
           sym (made_there lent w.tone old few n room many buffer made) ∙ shown_word w old refl range
 
       text_front : take (n - 0) buffer ≡ its_text
-      text_front = its_front w range old room (Wrote n) (ap (λ (x : Written). x.answer) shows) n refl buffer (ap (λ (x : Written). x.output) shows)
+      text_front = its_front w range old room (Ok n) (ap (λ (x : Written). x.answer) shows) n refl buffer (ap (λ (x : Written). x.output) shows)
 
       pub text_long : n ≡ length its_text
-      text_long = so_long w range old room (Wrote n) (ap (λ (x : Written). x.answer) shows) n refl
+      text_long = so_long w range old room (Ok n) (ap (λ (x : Written). x.answer) shows) n refl
 
       front_made : take n buffer ≡ its_text
       front_made = let m : n ≡ n - 0 = omega arith in ap (λ (k : ℕ). take k buffer) m ∙ text_front
@@ -129,37 +127,37 @@ module _ (m : ℕ) (ks text : List ℕ) where
     unfolding ruling_of refusal
     no_key e = simp (mode, le-ltb most_keys (0 + length ks) (omega arith), le-ltb most_bytes (length text) short, e)
 
-    typed_no_key : all (is_key m) ks ≡ false → (type_all m ks).answer ≡ TypeRefused (record { number = 3; value = 0 + allowed_before m ks })
+    typed_no_key : all (is_key m) ks ≡ false → (type_all m ks).answer ≡ Err (record { number = 3; value = 0 + allowed_before m ks })
     unfolding type_all refusal
     typed_no_key e = simp (mode, le-ltb most_keys (0 + length ks) (omega arith), e)
 
-    all_keys : all (is_key m) ks ≡ true → (type_all m ks).answer ≡ AllTyped
+    all_keys : all (is_key m) ks ≡ true → (type_all m ks).answer ≡ Ok tt
     unfolding type_all refusal
     all_keys e = simp (mode, le-ltb most_keys (0 + length ks) (omega arith), e)
 
     -- typing is refused where commit is, with the same numbers
-    pub not_typed : (x : Refusal) → (type_all m ks).answer ≡ TypeRefused x → Refused x ≡ ruling_of m ks text
+    pub not_typed : (x : Refusal) → (type_all m ks).answer ≡ Err x → Refused x ≡ ruling_of m ks text
     not_typed x e = go (all (is_key m) ks) refl
       where
         go : (b : Bool) → all (is_key m) ks ≡ b → Refused x ≡ ruling_of m ks text
         go true d =
-            let f : AllTyped ≡ TypeRefused x = sym (all_keys d) ∙ e in
+            let f : (Ok tt) ≡ Err x = sym (all_keys d) ∙ e in
             let z : ◌≡◌ {A = ℕ} 0 1 = cc in
             absurd (omega arith)
         go false d =
-            let f : TypeRefused x ≡ TypeRefused (record { number = 3; value = 0 + allowed_before m ks }) = sym e ∙ typed_no_key d in
+            let f : Err x ≡ Err (record { number = 3; value = 0 + allowed_before m ks }) = sym e ∙ typed_no_key d in
             let g : x ≡ record { number = 3; value = 0 + allowed_before m ks } = cc in
             ap (λ (y : Refusal). Refused y) g ∙ no_key d
 
     -- past the keys: the ruling is that on the word that they make
-    module _ (a : (type_all m ks).answer ≡ AllTyped) where
+    module _ (a : (type_all m ks).answer ≡ (Ok tt)) where
       keys_typed : all (is_key m) ks ≡ true
       keys_typed = go (all (is_key m) ks) refl
         where
           go : (b : Bool) → all (is_key m) ks ≡ b → b ≡ true
           go true d = refl
           go false d =
-              let f : AllTyped ≡ TypeRefused (record { number = 3; value = 0 + allowed_before m ks }) = sym a ∙ typed_no_key d in
+              let f : (Ok tt) ≡ Err (record { number = 3; value = 0 + allowed_before m ks }) = sym a ∙ typed_no_key d in
               let z : ◌≡◌ {A = ℕ} 0 1 = cc in
               absurd (omega arith)
 

@@ -7,7 +7,7 @@ ghost use Rattle.rules.specs.Refusals.{out_of_range};
 ghost use Rattle.rules.specs.WhatComesBack.{commit as commit_of, commit_answer};
 ghost use Rattle.commit.specs.Rulings.{judged, ruling_of, handed_from};
 
-use rules::{CommitAnswer, Decision, Refusal, TypeAnswer, Word};
+use rules::{Decision, Refusal, Word};
 
 // What is to be handed back: so many bytes of the text, the keys, or nothing.
 #[derive(Clone, Copy)]
@@ -62,7 +62,7 @@ pub fn rule(mode: u8, keys: &[u8], text: &[u8]) -> Ruling
     }
     let all = word::type_all(mode, keys);
     let answer = all.answer;
-    if let TypeAnswer::Refused(refusal) = answer {
+    if let Err(refusal) = answer {
         return Ruling::Refused(refusal);
     }
     judge(&all.word, text)
@@ -80,12 +80,12 @@ pub fn commit<'a>(mode: u8, keys: &'a [u8], text: &'a [u8]) -> &'a [u8]
 }
 
 // Is commit refused on the same input, and how. Refusals: 1, 2 (32), 2 (96), 3, 5.
-pub fn answer(mode: u8, keys: &[u8], text: &[u8]) -> CommitAnswer
+pub fn answer(mode: u8, keys: &[u8], text: &[u8]) -> Result<(), Refusal>
     ensures { result ≡ commit_answer mode keys.now text.now }
 {
     match rule(mode, keys, text) {
-        Ruling::Keep(_) => CommitAnswer::Granted,
-        Ruling::Restore => CommitAnswer::Granted,
-        Ruling::Refused(refusal) => CommitAnswer::Refused(refusal),
+        Ruling::Keep(_) => Ok(()),
+        Ruling::Restore => Ok(()),
+        Ruling::Refused(refusal) => Err(refusal),
     }
 }

@@ -11,11 +11,8 @@ ghost use Rattle.felcantuzza.specs.Recordings as Recordings;
 
 use commit::Ruling;
 use press::ShownAnswer;
-use recording::{BeginAnswer, KeyPress, Press, Progress};
-use rules::{
-    Act, Decision, DecisionAnswer, Outcome, Place, PlaceAnswer, Refusal, StartAnswer, StepAnswer,
-    VerdictAnswer, Word, WriteAnswer,
-};
+use recording::{KeyPress, Progress};
+use rules::{Act, Decision, Outcome, Refusal, Word};
 
 fn answered(number: usize, value: &mut usize) -> u8
     ensures { (result ≡ 0) × (value.new ≡ number) }
@@ -60,12 +57,12 @@ fn outcome_number(outcome: Outcome) -> usize
     }
 }
 
-fn place_number(place: Place) -> usize
+fn place_number(place: Option<usize>) -> usize
     ensures { result ≡ Calls.placed (place_numbers place) }
 {
     match place {
-        Place::At(at) => at,
-        Place::Nowhere => 255,
+        Some(at) => at,
+        None => 255,
     }
 }
 
@@ -88,12 +85,12 @@ pub fn fz_start(mode: u8, lent: &mut [u8], value: &mut usize) -> u8
     let started = word::start(mode);
     let answer = started.answer;
     match answer {
-        StartAnswer::Started => {
+        Ok(()) => {
             let next = started.word;
             layout::write(next, lent);
             answered(0, value)
         }
-        StartAnswer::Refused(refusal) => refused(refusal, value),
+        Err(refusal) => refused(refusal, value),
     }
 }
 
@@ -103,8 +100,8 @@ pub fn fz_type(lent: &mut [u8], key: u8, value: &mut usize) -> u8
 {
     let answer = step::step_at(lent, key);
     match answer {
-        StepAnswer::Did(outcome) => answered(outcome_number(outcome), value),
-        StepAnswer::Refused(refusal) => refused(refusal, value),
+        Ok(outcome) => answered(outcome_number(outcome), value),
+        Err(refusal) => refused(refusal, value),
     }
 }
 
@@ -156,7 +153,7 @@ pub fn fz_type_and_show(
     }
     let answer = step::step_at(lent, key);
     match answer {
-        StepAnswer::Did(outcome) => {
+        Ok(outcome) => {
             *did = outcome_number(outcome);
             let reading = layout::read(lent);
             let next = reading.word;
@@ -164,7 +161,7 @@ pub fn fz_type_and_show(
             let count = next.count as usize;
             answered(show::in_room(&letters[0..count], next.tone, out), value)
         }
-        StepAnswer::Refused(refusal) => {
+        Err(refusal) => {
             *did = 0;
             refused(refusal, value)
         }
@@ -180,8 +177,8 @@ pub fn fz_show(lent: &[u8], out: &mut [u8], value: &mut usize) -> u8
         return no_record(value);
     }
     match show::show_in(&reading.word, out) {
-        WriteAnswer::Wrote(bytes) => answered(bytes, value),
-        WriteAnswer::Refused(refusal) => refused(refusal, value),
+        Ok(bytes) => answered(bytes, value),
+        Err(refusal) => refused(refusal, value),
     }
 }
 
@@ -195,8 +192,8 @@ pub fn fz_verdict(lent: &[u8], value: &mut usize) -> u8
     }
     let w = reading.word;
     match word::verdict(w) {
-        VerdictAnswer::Judged(verdict) => answered(verdict as usize, value),
-        VerdictAnswer::Refused(refusal) => refused(refusal, value),
+        Ok(verdict) => answered(verdict as usize, value),
+        Err(refusal) => refused(refusal, value),
     }
 }
 
@@ -210,8 +207,8 @@ pub fn fz_place(lent: &[u8], value: &mut usize) -> u8
     }
     let w = reading.word;
     match word::place(w) {
-        PlaceAnswer::Found(place) => answered(place_number(place), value),
-        PlaceAnswer::Refused(refusal) => refused(refusal, value),
+        Ok(place) => answered(place_number(place), value),
+        Err(refusal) => refused(refusal, value),
     }
 }
 
@@ -225,8 +222,8 @@ pub fn fz_decision(lent: &[u8], value: &mut usize) -> u8
     }
     let w = reading.word;
     match word::decision(w) {
-        DecisionAnswer::Decided(decision) => answered(decision_number(decision), value),
-        DecisionAnswer::Refused(refusal) => refused(refusal, value),
+        Ok(decision) => answered(decision_number(decision), value),
+        Err(refusal) => refused(refusal, value),
     }
 }
 
@@ -246,8 +243,8 @@ pub fn fz_spell(mode: u8, text: &[u8], out: &mut [u8], value: &mut usize) -> u8
     ensures { (result ≡ Calls.returned (Calls.spell mode text.now out.old)) × (value.new ≡ Calls.value_by Calls.only_one (Calls.spell mode text.now out.old)) × (out.new ≡ Calls.spell_output mode text.now out.old) }
 {
     match speller::spell(mode, text, out) {
-        WriteAnswer::Wrote(keys) => answered(keys, value),
-        WriteAnswer::Refused(refusal) => refused(refusal, value),
+        Ok(keys) => answered(keys, value),
+        Err(refusal) => refused(refusal, value),
     }
 }
 
@@ -256,8 +253,8 @@ pub fn fz_record(mode: u8, presses: &[u64], out: &mut [u8], value: &mut usize) -
     ensures { (result ≡ Calls.returned (Recordings.record_drill mode presses.now out.old)) × (value.new ≡ Calls.value_by Calls.only_one (Recordings.record_drill mode presses.now out.old)) × (out.new ≡ Recordings.record_output mode presses.now out.old) }
 {
     match recording::write(mode, presses, out) {
-        WriteAnswer::Wrote(bytes) => answered(bytes, value),
-        WriteAnswer::Refused(refusal) => refused(refusal, value),
+        Ok(bytes) => answered(bytes, value),
+        Err(refusal) => refused(refusal, value),
     }
 }
 
@@ -266,12 +263,12 @@ pub fn fz_begin(recording: &[u8], at: &mut usize, value: &mut usize) -> u8
     ensures { (result ≡ Calls.returned (Recordings.begin recording.now)) × (value.new ≡ Calls.value_by Calls.only_one (Recordings.begin recording.now)) × (at.new ≡ Recordings.begin_at recording.now at.old) }
 {
     match recording::begin(recording) {
-        BeginAnswer::Begins(begun) => {
+        Ok(begun) => {
             *at = begun.at;
             let progress = begun.progress;
             answered(progress.mode as usize, value)
         }
-        BeginAnswer::Refused(refusal) => refused(refusal, value),
+        Err(refusal) => refused(refusal, value),
     }
 }
 
@@ -305,9 +302,9 @@ pub fn fz_next(
     *milliseconds = onward.milliseconds as usize;
     let met = step.press;
     match met {
-        Press::Pressed(x) => answered(press_number(x), value),
-        Press::End => answered(0, value),
-        Press::Refused(refusal) => refused(refusal, value),
+        Ok(Some(x)) => answered(press_number(x), value),
+        Ok(None) => answered(0, value),
+        Err(refusal) => refused(refusal, value),
     }
 }
 
@@ -323,7 +320,7 @@ pub fn fz_replay(
     let replayed = replay::replay(recording, out);
     let answer = replayed.answer;
     match answer {
-        WriteAnswer::Wrote(bytes) => {
+        Ok(bytes) => {
             let all = replayed.summary;
             *summary = [
                 all.words,
@@ -336,6 +333,6 @@ pub fn fz_replay(
             ];
             answered(bytes, value)
         }
-        WriteAnswer::Refused(refusal) => refused(refusal, value),
+        Err(refusal) => refused(refusal, value),
     }
 }

@@ -7,7 +7,6 @@ ghost use Rattle.rules.specs.TheWord.{at_front};
 ghost use Rattle.stream.specs.Feeding.{feeding, room_for, fed_of};
 
 use lines::Program;
-use rules::WriteAnswer;
 use std::io;
 use std::io::{ErrorKind, Read};
 use std::process::ExitCode;
@@ -85,7 +84,7 @@ fn pass(
 // A last line without a newline.
 fn end(rt: &HostRuntime, state: Begun, out: &mut [u8]) -> io::Result<()> {
     let program = state.program;
-    let WriteAnswer::Wrote(n) = stream::finish(state, out) else {
+    let Ok(n) = stream::finish(state, out) else {
         return Ok(());
     };
     written(rt, program, &out[0..n])
@@ -109,7 +108,7 @@ fn passes(rt: &HostRuntime, program: Program, block: &mut [u8], out: &mut [u8]) 
 fn answer_all(rt: &HostRuntime, program: Program) -> io::Result<()> {
     let mut block = [0; BLOCK];
     let mut out = [0; OUTPUT];
-    let WriteAnswer::Wrote(n) = stream::header(program, &mut out) else {
+    let Ok(n) = stream::header(program, &mut out) else {
         return Ok(());
     };
     written(rt, program, &out[0..n])?;

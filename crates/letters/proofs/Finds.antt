@@ -1,4 +1,5 @@
 -- The search for a code point, one entry of the table after the other.
+use Rattle.std.specs.Prelude.{Some, None}
 use mathlib.Core.Path.{◌≡◌, refl, sym, ap, ◌∙◌}
 use mathlib.Core.Bool.{Bool, true, false}
 use mathlib.Core.List.{List, []}
@@ -11,7 +12,6 @@ use borrow.Author.Tests.{eq-eqb, ne_eqb}
 use Rattle.rules.specs.TheWord.{number}
 use Rattle.rules.specs.CodePoints.{capital_point}
 use Rattle.rules.specs.Speller.{a_letter}
-use Rattle.letters.specs.declared.LetterRead.TheVariants.{Letter, NoLetter}
 use Rattle.letters.specs.Rows.{point_table, letter_of, cased, sign_of}
 use Rattle.letters.specs.Decoding.{found_in, found, read_as}
 use Rattle.letters.proofs.Points.{entry_at, flat_entry}
@@ -35,17 +35,17 @@ abbrev pub found_from : ℕ → ℕ → Type 0
 found_from c i = found c ≡ found_in c i (drop i point_table)
 
 module _ (c n r t : ℕ) (h : r < 12) (l : t < 6) (inv : found_from c (r * 6 + t)) where
-  read : (b : Bool) → found c ≡ a_letter (sign_of b (r * 6 + t)) → {x : ℕ} → x ≡ number (cased b (letter_of r)) → Letter x t n ≡ read_as n (found c)
+  read : (b : Bool) → found c ≡ a_letter (sign_of b (r * 6 + t)) → {x : ℕ} → x ≡ number (cased b (letter_of r)) → Some (record { number = x; tone = t; length = n }) ≡ read_as n (found c)
   read b e d =
       let k : (r * 6 + t) / 6 ≡ r = omega arith in
       let m : (r * 6 + t) % 6 ≡ t = omega arith in
-      (λ j. Letter ((d ∙ ap (λ (r : ℕ). number (cased b (letter_of r))) (sym k)) j) (sym m j) n) ∙ sym (ap (read_as n) e)
+      (λ j. Some (record { number = (d ∙ ap (λ (r : ℕ). number (cased b (letter_of r))) (sym k)) j; tone = sym m j; length = n })) ∙ sym (ap (read_as n) e)
 
-  pub small_read : entry_at r t ≡ c → {x : ℕ} → x ≡ number (cased false (letter_of r)) → Letter x t n ≡ read_as n (found c)
+  pub small_read : entry_at r t ≡ c → {x : ℕ} → x ≡ number (cased false (letter_of r)) → Some (record { number = x; tone = t; length = n }) ≡ read_as n (found c)
   unfolding point_table
   small_read e = read false (inv ∙ at_small c point_table (r * 6 + t) (omega arith) (sym (flat_entry r t h l) ∙ e))
 
-  pub capital_read : (entry_at r t ≡ c → ⊥) → capital_point (entry_at r t) ≡ c → {x : ℕ} → x ≡ number (cased false (letter_of r)) → Letter (x + 2048) t n ≡ read_as n (found c)
+  pub capital_read : (entry_at r t ≡ c → ⊥) → capital_point (entry_at r t) ≡ c → {x : ℕ} → x ≡ number (cased false (letter_of r)) → Some (record { number = x + 2048; tone = t; length = n }) ≡ read_as n (found c)
   unfolding point_table
   capital_read g e d = read true (inv ∙ at_capital c point_table (r * 6 + t) (omega arith) (λ f. g (flat_entry r t h l ∙ f)) (rw (← flat_entry r t h l) e)) (omega arith)
 
@@ -55,7 +55,7 @@ module _ (c n r t : ℕ) (h : r < 12) (l : t < 6) (inv : found_from c (r * 6 + t
       let e : r * 6 + t + 1 ≡ r * 6 + (t + 1) = omega arith in
       inv ∙ further c point_table (r * 6 + t) (omega arith) (λ k. g (flat_entry r t h l ∙ k)) (λ k. f (ap capital_point (flat_entry r t h l) ∙ k)) ∙ ap (λ (k : ℕ). found_in c k (drop k point_table)) e
 
-pub not_read : (c n i : ℕ) → 72 ≤ i → found_from c i → NoLetter ≡ read_as n (found c)
+pub not_read : (c n i : ℕ) → 72 ≤ i → found_from c i → None ≡ read_as n (found c)
 unfolding point_table
 not_read c n i l inv =
     let e : drop i point_table ≡ [] = drop_of_length-le point_table l in

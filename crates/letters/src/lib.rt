@@ -14,14 +14,11 @@ mod vowels;
 use rules::{CAPITAL, DOT, NO_TONE, STROKE, Word};
 
 // A letter that starts at a place of a text: its number, the tone on it, and its length in bytes.
-#[derive(Clone, Copy)]
-pub enum LetterRead {
-    Letter {
-        number: u16,
-        tone: u8,
-        length: usize,
-    },
-    NoLetter,
+#[derive(Clone, Copy, Debug, PartialEq, Eq)]
+pub struct LetterRead {
+    pub number: u16,
+    pub tone: u8,
+    pub length: usize,
 }
 
 // đ: its number as a letter, and its code points.
@@ -130,27 +127,27 @@ fn follows(byte: u8) -> bool
 }
 
 // A letter of one byte is an ASCII letter, in its own case and with no tone.
-fn one_byte(first: u8) -> LetterRead
+fn one_byte(first: u8) -> Option<LetterRead>
     ensures { result ≡ read_as 1 (one_byte_of first) }
 {
     if keys::is_key(Word::TELEX, first) {
-        return LetterRead::Letter {
+        return Some(LetterRead {
             number: keys::letter_of_key(first),
             tone: NO_TONE,
             length: 1,
-        };
+        });
     }
-    LetterRead::NoLetter
+    None
 }
 
 // A letter of two bytes. The leads C0 and C1 would be overlong.
-fn two_bytes(first: u8, second: u8) -> LetterRead
+fn two_bytes(first: u8, second: u8) -> Option<LetterRead>
     ensures { result ≡ read_as 2 (two_bytes_of first second) }
 {
     if (0xC2 <= first) & follows(second) {
         return vowels::find(point_of_two(first, second), 2);
     }
-    LetterRead::NoLetter
+    None
 }
 
 fn point_of_two(first: u8, second: u8) -> u16
@@ -161,7 +158,7 @@ fn point_of_two(first: u8, second: u8) -> u16
 }
 
 // A letter of three bytes; a code point below 800 hex would be overlong.
-fn three_bytes(first: u8, second: u8, third: u8) -> LetterRead
+fn three_bytes(first: u8, second: u8, third: u8) -> Option<LetterRead>
     requires { 0xE0 ≤ first }
     ensures { result ≡ read_as 3 (three_bytes_of first second third) }
 {
@@ -171,7 +168,7 @@ fn three_bytes(first: u8, second: u8, third: u8) -> LetterRead
             return vowels::find(point, 3);
         }
     }
-    LetterRead::NoLetter
+    None
 }
 
 fn point_of_three(first: u8, second: u8, third: u8) -> u16
@@ -182,11 +179,11 @@ fn point_of_three(first: u8, second: u8, third: u8) -> u16
 }
 
 // The letter of the alphabet that starts at a place of a text.
-pub fn read(text: &[u8], at: usize) -> LetterRead
+pub fn read(text: &[u8], at: usize) -> Option<LetterRead>
     ensures { result ≡ read_at text.now at }
 {
     if text.len() <= at {
-        return LetterRead::NoLetter;
+        return None;
     }
     let left = text.len() - at;
     let first = text[at];
@@ -194,14 +191,14 @@ pub fn read(text: &[u8], at: usize) -> LetterRead
         return one_byte(first);
     }
     if left < 2 {
-        return LetterRead::NoLetter;
+        return None;
     }
     let second = text[at + 1];
     if first < 0xE0 {
         return two_bytes(first, second);
     }
     if left < 3 {
-        return LetterRead::NoLetter;
+        return None;
     }
     three_bytes(first, second, text[at + 2])
 }

@@ -1,4 +1,5 @@
 -- Columns written one behind the other: two writings after each other, and how long a column can be.
+use Rattle.std.specs.Prelude.{Option, Some, None}
 use mathlib.Core.Path.{◌≡◌, refl, sym, ap, subst, ◌∙◌}
 use mathlib.Core.Bool.{Bool, true, false}
 use mathlib.Core.List.{List, [], ◌∷◌, ◌++◌, append_assoc}
@@ -10,8 +11,6 @@ use lib.ListN.{length, take, length-append}
 use lib.Seq.{length-take-le}
 use Rattle.rules.specs.Decision.{handed_back}
 use Rattle.rules.specs.Drill.{newline, decimal, or_hyphen, place_column, joined, columns, place_or_hyphen}
-use Rattle.rules.specs.declared.Place.{Place}
-use Rattle.rules.specs.declared.Place.TheVariants.{At, Nowhere}
 use Rattle.rules.specs.declared.Decision.{Decision}
 use Rattle.rules.specs.declared.Decision.TheVariants.{Keep, Restore}
 use Rattle.lines.specs.Appending.{Appends, held, ended_by}
@@ -76,9 +75,9 @@ pub hyphen_long : (part : List ℕ) (end : ℕ) → length (or_hyphen part ++ (e
 hyphen_long [] end = lit≤ tt
 hyphen_long (b ∷ bs) end = simp length-append (omega arith)
 
-pub place_long : (p : Place) (end : ℕ) → length (place_column p ++ (end ∷ [])) ≤ 3
-place_long (At n) end = decimal_long n end
-place_long Nowhere end = lit≤ tt
+pub place_long : (p : Option ℕ) (end : ℕ) → length (place_column p ++ (end ∷ [])) ≤ 3
+place_long (Some n) end = decimal_long n end
+place_long None end = lit≤ tt
 
 pub handed_long : (d : Decision) (shown keys : List ℕ) (end : ℕ) {n : ℕ} → length shown ≤ n → length keys ≤ n → length (or_hyphen (handed_back d shown keys) ++ (end ∷ [])) ≤ n + 2
 handed_long Keep shown keys end s k = omega (arith, hyphen_long shown end)

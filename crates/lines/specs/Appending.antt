@@ -1,9 +1,7 @@
 -- What is said of a function that writes a part of an answer line behind what is already written, and of the sizes that it can meet.
-use Rattle.std.specs.Prelude.{◌≡◌, List, [], ◌∷◌, ◌++◌, ℕ, ◌+◌, ◌<◌, length, take}
+use Rattle.std.specs.Prelude.{◌≡◌, List, [], ◌∷◌, ◌++◌, ℕ, ◌+◌, ◌<◌, length, take, Option, Some, None}
 use Prim.Native.Char.{code}
 use Rattle.rules.specs.Drill.{joined}
-use Rattle.rules.specs.declared.Place.{Place}
-use Rattle.rules.specs.declared.Place.TheVariants.{At, Nowhere}
 use Rattle.lines.specs.declared.line.Line.{Line}
 
 -- the bytes that a line holds
@@ -27,6 +25,6 @@ abbrev pub most_a_byte : ℕ
 most_a_byte = 12
 
 -- a place that fits a byte
-abbrev pub SmallPlace : Place → Type 0
-SmallPlace (At n) = n < 256
-SmallPlace Nowhere = Unit {0}
+abbrev pub SmallPlace : Option ℕ → Type 0
+SmallPlace (Some n) = n < 256
+SmallPlace None = Unit {0}

@@ -12,7 +12,7 @@ ghost use Rattle.lines.specs.Appending.{Appends, ended_by, most_in_line};
 ghost use Rattle.lines.specs.Programs.{word_line_of, six_end as six_end_of, answer_of, line_answer};
 
 use line::{Line, NEWLINE, SPACE};
-use rules::{Decision, TypeAnswer, Word, WriteAnswer};
+use rules::{Decision, Refusal, Word};
 
 // The programs that answer lines.
 #[derive(Clone, Copy)]
@@ -101,7 +101,7 @@ fn keys_line(answer: &mut Line, mode: u8, keys: &[u8], keyed: bool)
 {
     let all = word::type_all(mode, keys);
     let typed = all.answer;
-    if let TypeAnswer::Refused(refusal) = typed {
+    if let Err(refusal) = typed {
         return answer.refused(refusal);
     }
     word_line(answer, all.word, keyed)
@@ -129,7 +129,7 @@ fn behind_start(line: &[u8]) -> &[u8]
 }
 
 // The answer to a line, its newline included, at the front of the output. Refusals: 4 with the bytes needed; the output is then as it was.
-pub fn answer_line(program: Program, line: &[u8], out: &mut [u8]) -> WriteAnswer
+pub fn answer_line(program: Program, line: &[u8], out: &mut [u8]) -> Result<usize, Refusal>
     ensures { (result ≡ (line_answer program line.now out.old).answer) × (out.new ≡ (line_answer program line.now out.old).output) }
 {
     let mode = mode_of(line);

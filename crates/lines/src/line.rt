@@ -3,7 +3,7 @@
 ghost use Rattle.std.specs.Prelude.{◌≤◌};
 ghost use Rattle.lines.specs.declared.line.TheConstants.{MOST};
 
-use rules::{Place, Refusal, Word, WriteAnswer};
+use rules::{Refusal, Word};
 
 pub(crate) const SPACE: u8 = b' ';
 
@@ -73,11 +73,11 @@ impl Line {
         self.append(&[end]);
     }
 
-    pub(crate) fn place(&mut self, place: Place, end: u8)
+    pub(crate) fn place(&mut self, place: Option<usize>, end: u8)
         requires { (self.old.at + 2 < most_in_line) × SmallPlace place }
         ensures { Appends self.old self.new (place_column place ++ (end ∷ [])) }
     {
-        let Place::At(n) = place else {
+        let Some(n) = place else {
             return self.append(&[b'-', end]);
         };
         self.number(n as u8, end)
@@ -137,8 +137,8 @@ impl Line {
     {
         let answer = speller::spell(mode, syllable, &mut self.text);
         match answer {
-            WriteAnswer::Refused(refusal) => self.refused(refusal),
-            WriteAnswer::Wrote(n) => {
+            Err(refusal) => self.refused(refusal),
+            Ok(n) => {
                 self.at = n;
                 self.append(&[NEWLINE]);
             }

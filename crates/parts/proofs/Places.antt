@@ -2,18 +2,16 @@
 use mathlib.Core.Path.{◌≡◌, refl, sym, ap, ap₂, ◌∙◌}
 use mathlib.Core.Bool.{Bool, true, false, not, ◌&&◌, ◌||◌}
 use mathlib.Core.List.{List, [], ◌∷◌, ◌++◌, map}
-use mathlib.Core.Option.{Option, none, some}
 use Prim.Native.Nat.{ℕ, zero, suc, ◌+◌, ◌≤◌, ◌%◌, ◌/◌}
 use native.Mathlib.Omega.{arith}
 use lib.Dec.{eqb}
-use Rattle.std.specs.Prelude.{Option as Found, Some, None, unwrap_or}
+use Rattle.std.specs.Prelude.{Option as Found, Some, None, unwrap_or, Option}
 use lib.ListN.{length, length-append, length-map}
 use borrow.Author.Tests.{eq-eqb, ne_eqb}
 use Rattle.rules.specs.Letters.{Letters, is_nil}
 use Rattle.rules.specs.TheWord.{letter}
 use Rattle.rules.specs.TakingApart.{initial, nucleus, final, leftovers}
 use Rattle.rules.specs.TonePlace.{or_here, last_shaped, by_count, or_by_count, place_within, place_unless, tone_place}
-use Rattle.rules.specs.declared.Place.TheVariants.{At, Nowhere}
 use Rattle.parts.specs.Ends.{parts_of}
 use Rattle.parts.specs.declared.Parts.{Parts}
 use Rattle.rules.proofs.Bools.{pick}
@@ -27,8 +25,8 @@ is_shaped n = not (eqb (n / 256 % 8) 0)
 
 -- the last shaped letter, by what `rposition` finds, or the place by the count
 abbrev found : Found ℕ → Option ℕ
-found (Some i) = some i
-found None = none
+found (Some i) = Some i
+found None = None
 
 last_is : (p : List ℕ) (r : Found ℕ) → IsLastPlace is_shaped p r → last_shaped (map letter p) ≡ found r
 last_is [] (Some i) h = absurd (omega (arith, h.0))
@@ -84,18 +82,18 @@ module _ (s : List ℕ) (tone : ℕ) (r : Parts) (e : r ≡ parts_of (map letter
   abbrev within : ℕ
   within = place_within (nucleus w) (is_nil (final w) && is_nil (leftovers w))
 
-  module _ (some : (tone ≡ 0) → ⊥) where
+  module _ (Some : (tone ≡ 0) → ⊥) where
     unless_is : (b : Bool) → eqb r.initial r.nucleus ≡ b → b ≡ (eqb tone 0 || is_nil (nucleus w))
-    unless_is b t = sym t ∙ (cut s r e).none ∙ ap (λ (c : Bool). c || is_nil (nucleus w)) (sym (ne_eqb tone 0 some))
+    unless_is b t = sym t ∙ (cut s r e).none ∙ ap (λ (c : Bool). c || is_nil (nucleus w)) (sym (ne_eqb tone 0 Some))
 
-    pub no_nucleus : r.initial ≡ r.nucleus → Nowhere ≡ tone_place w tone
+    pub no_nucleus : r.initial ≡ r.nucleus → None ≡ tone_place w tone
     unfolding tone_place
     no_nucleus t = ap (λ (b : Bool). place_unless b (length (initial w) + within)) (unless_is true (eq-eqb r.initial r.nucleus t))
 
-    pub somewhere : (k : ℕ) (ns : List ℕ) → map letter ns ≡ nucleus w → (r.initial ≡ r.nucleus → ⊥) → k ≡ place_within (map letter ns) (eqb r.nucleus (length s)) → At (r.initial + k) ≡ tone_place w tone
+    pub somewhere : (k : ℕ) (ns : List ℕ) → map letter ns ≡ nucleus w → (r.initial ≡ r.nucleus → ⊥) → k ≡ place_within (map letter ns) (eqb r.nucleus (length s)) → Some (r.initial + k) ≡ tone_place w tone
     unfolding tone_place
     somewhere k ns a t ek = λ j. place_unless (unless_is false (ne_eqb r.initial r.nucleus t) j) (i_is j + (ek ∙ ap₂ place_within a ends_is) j)
 
-pub no_tone_law : (w : Letters) (tone : ℕ) → tone ≡ 0 → Nowhere ≡ tone_place w tone
+pub no_tone_law : (w : Letters) (tone : ℕ) → tone ≡ 0 → None ≡ tone_place w tone
 unfolding tone_place
 no_tone_law w tone e = sym (ap (λ (t : ℕ). tone_place w t) e)

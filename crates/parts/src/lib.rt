@@ -8,7 +8,7 @@ ghost use Rattle.rules.specs.TakingApart.{front, joins as joins_of};
 ghost use Rattle.rules.specs.TonePlace.{by_count as by_count_of, place_within as place_within_of, tone_place as tone_place_of};
 ghost use Rattle.parts.specs.Ends.{parts_of};
 
-use rules::{CAPITAL, NO_TONE, PLAIN, Place};
+use rules::{CAPITAL, NO_TONE, PLAIN};
 
 // Places within a nucleus.
 const FIRST: usize = 0;
@@ -104,17 +104,17 @@ fn place_within(nuc: &[u16], ends: bool) -> usize
 }
 
 // Where the tone is shown, counted from 0 over the word's letters; nowhere if the tone is 0 or the nucleus is empty.
-pub fn tone_place(s: &[u16], tone: u8) -> Place
+pub fn tone_place(s: &[u16], tone: u8) -> Option<usize>
     ensures { result ≡ tone_place_of (map letter s.now) tone }
 {
     if tone == NO_TONE {
-        return Place::Nowhere;
+        return None;
     }
     let parts = apart(s);
     let i = parts.initial;
     let n = parts.nucleus;
     if i == n {
-        return Place::Nowhere;
+        return None;
     }
-    Place::At(i + place_within(&s[i..n], n == s.len()))
+    Some(i + place_within(&s[i..n], n == s.len()))
 }

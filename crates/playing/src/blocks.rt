@@ -5,7 +5,7 @@ ghost use Rattle.recording.specs.Recordings.{step_at, begin as begin_of};
 ghost use Rattle.playing.specs.Parts.{IsPart, Enough, ReadOn, shown_in, short, later};
 
 use crate::say;
-use recording::{BeginAnswer, Progress, Stepped};
+use recording::{Progress, Stepped};
 use std::io::Read;
 
 // A step is two numbers, each of at most five bytes.
@@ -23,7 +23,7 @@ pub(crate) struct Window {
 
 impl Window {
     // The mode, in front of all steps. Where the block shows the front of a recording with enough bytes for it, it is that of the whole recording.
-    pub(crate) fn first_mode(self, block: &[u8]) -> BeginAnswer
+    pub(crate) fn first_mode(self, block: &[u8]) -> Result<Begun, Refusal>
         ensures { (s rest : List ℕ) → IsPart s 0 (shown_in self block.now) rest → Enough 0 (shown_in self block.now) rest → begin_of s ≡ result }
     {
         let n = self.end.min(block.len());

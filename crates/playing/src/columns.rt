@@ -3,7 +3,7 @@ ghost use Rattle.std.specs.Prelude.{◌≤◌};
 ghost use Rattle.playing.specs.declared.columns.TheConstants.{OUTPUT};
 
 use crate::{Totals, say};
-use rules::{Act, Decision, Outcome, Refusal, Word, WriteAnswer};
+use rules::{Act, Decision, Outcome, Refusal, Word};
 use std::fmt::InlineText;
 use std::io;
 use std::io::ErrorKind;
@@ -114,7 +114,7 @@ impl Output<'_> {
     // The shown text of a word and a newline.
     pub(crate) fn put_shown(&mut self, w: Word) {
         let mut text = [0; Word::TEXT];
-        let WriteAnswer::Wrote(n) = show::show(w, &mut text) else {
+        let Ok(n) = show::show(w, &mut text) else {
             return;
         };
         self.put(&text[0..n]);

@@ -4,9 +4,9 @@
 
 use blocks::Window;
 use columns::Output;
-use recording::{BeginAnswer, KeyPress, Press, Progress, SPACE};
-use replay::{WordAnswer, WordDone};
-use rules::{Decision, Refusal, StepAnswer, Word};
+use recording::{KeyPress, Progress, SPACE};
+use replay::{WordDone};
+use rules::{Decision, Refusal, Word};
 use std::process::ExitCode;
 
 mod blocks;
@@ -86,7 +86,7 @@ impl Play<'_> {
         let n = self.progress.in_word.min(Word::KEYS);
         let mut line = [0; replay::LINE];
         let answer = replay::commit_word(self.progress.mode, &self.keys[..n], &mut line);
-        let WordAnswer::Committed(done) = answer else {
+        let Ok(done) = answer else {
             return;
         };
         let bytes = done.bytes;
@@ -106,7 +106,7 @@ impl Play<'_> {
     // A key typed into the word that has begun, and its line. The word takes the key: the step asked that of the recording.
     fn type_key(&mut self, x: KeyPress) {
         let answer = step::step_at(&mut self.word, x.key);
-        let StepAnswer::Did(outcome) = answer else {
+        let Ok(outcome) = answer else {
             return;
         };
         self.out.put_column(x.milliseconds as u64);
@@ -159,8 +159,8 @@ impl Play<'_> {
     fn begin(&mut self) -> Next {
         let answer = self.window.first_mode(&self.block);
         match answer {
-            BeginAnswer::Begins(b) => self.go_on(b.at, b.progress),
-            BeginAnswer::Refused(r) => self.refuse(r),
+            Ok(b) => self.go_on(b.at, b.progress),
+            Err(r) => self.refuse(r),
         }
     }
 
@@ -168,7 +168,7 @@ impl Play<'_> {
         let s = self.window.next_step(&self.block, self.progress);
         let press = s.press;
         match press {
-            Press::Pressed(x) => {
+            Ok(Some(x)) => {
                 if x.key == SPACE {
                     self.space(x.milliseconds);
                 } else {
@@ -176,11 +176,11 @@ impl Play<'_> {
                 }
                 self.go_on(s.at, s.progress)
             }
-            Press::End => {
+            Ok(None) => {
                 self.end();
                 Next::Done
             }
-            Press::Refused(r) => self.refuse(r),
+            Err(r) => self.refuse(r),
         }
     }
 

@@ -5,7 +5,7 @@ ghost use Rattle.std.specs.Prelude.{◌≡◌};
 ghost use Rattle.recording.specs.Recordings.{begin as begin_of};
 ghost use Rattle.reader.specs.Standing.{step_from, place_after};
 
-use recording::{BeginAnswer, Progress, Stepped};
+use recording::{Progress, Stepped};
 
 #[derive(Clone, Copy)]
 pub struct Reader<'a> {
@@ -22,7 +22,7 @@ impl<'a> Reader<'a> {
     }
 
     // The mode in front of the recording, wherever the reader stands. Refusals: 10, 1, at place 0.
-    pub fn begin(self) -> BeginAnswer
+    pub fn begin(self) -> Result<Begun, Refusal>
         ensures { result ≡ begin_of self.entry.recording.now }
     {
         recording::begin(self.recording)

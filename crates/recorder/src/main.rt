@@ -8,7 +8,7 @@ ghost use Rattle.recorder.specs.declared.TheConstants.{MOST};
 
 use messages::{say, say_fault, say_refused};
 use recording::SPACE;
-use rules::{Word, WriteAnswer};
+use rules::{Word};
 use std::io::{ErrorKind, Read};
 use std::process::ExitCode;
 
@@ -196,7 +196,7 @@ fn write(rt: &HostRuntime, drill: &Drill) -> ExitCode {
     let mut out = [0; ROOM];
     let answer = recording::write(drill.mode, &drill.presses[..drill.count], &mut out);
     match answer {
-        WriteAnswer::Wrote(written) => {
+        Ok(written) => {
             let Err(e) = rt.stdout().write_all(&out[0..written]) else {
                 return ExitCode::SUCCESS;
             };
@@ -205,7 +205,7 @@ fn write(rt: &HostRuntime, drill: &Drill) -> ExitCode {
             }
             ending::status(e)
         }
-        WriteAnswer::Refused(r) => {
+        Err(r) => {
             say_refused(rt, r, &drill.lines);
             ExitCode::SUCCESS
         }

@@ -8,10 +8,8 @@ ghost use Rattle.rules.specs.Refusals.{all};
 ghost use Rattle.groups.specs.Numbers.{limit, written};
 ghost use Rattle.recording.specs.Recordings.{is_space, press, none_yet, in_word as in_word_of, onward as onward_of, word_full, refused_for, checked as checked_of, staying as staying_of, refused_step, step_at as step_at_of, begin as begin_of};
 ghost use Rattle.recording.specs.Drills.{press_in, short_time, drill_bytes, checked_from, written_drill};
-ghost use Rattle.recording.specs.declared.Checked.TheVariants.{Fine, Faulty};
 
-use groups::NumberAnswer;
-use rules::{Refusal, Word, WriteAnswer};
+use rules::{Refusal, Word};
 
 // The key that ends a word.
 pub const SPACE: u8 = b' ';
@@ -46,7 +44,7 @@ pub enum Press {
 // After a step: what it met, the place of the next one, and how far the drill has come.
 #[derive(Clone, Copy)]
 pub struct Stepped {
-    pub press: Press,
+    pub press: Result<Option<KeyPress>, Refusal>,
     pub at: usize,
     pub progress: Progress,
 }
@@ -79,22 +77,22 @@ enum Checked {
 }
 
 // The mode in front of a recording. Refusals: 10, 1, at place 0.
-pub fn begin(recording: &[u8]) -> BeginAnswer
+pub fn begin(recording: &[u8]) -> Result<Begun, Refusal>
     ensures { result ≡ begin_of recording.now }
 {
-    let NumberAnswer::Read(mode) = groups::number_at(recording, 0) else {
-        return BeginAnswer::Refused(Refusal {
+    let Some(mode) = groups::number_at(recording, 0) else {
+        return Err(Refusal {
             number: 10,
             value: 0,
         });
     };
     if mode.value > Word::VNI as u32 {
-        return BeginAnswer::Refused(Refusal {
+        return Err(Refusal {
             number: 1,
             value: 0,
         });
     }
-    BeginAnswer::Begins(Begun {
+    Ok(Begun {
         at: mode.groups,
         progress: Progress::new(mode.value as u8),
     })
@@ -121,7 +119,7 @@ impl Progress {
 
     // How far the drill has come with a press more.
     fn onward(self, x: KeyPress) -> Progress
-        requires { checked_of self x 0 0 ≡ Fine }
+        requires { checked_of self x 0 0 ≡ (Ok tt) }
         ensures { result ≡ onward_of self x }
     {
         Progress {
@@ -143,10 +141,10 @@ impl Given {
     }
 }
 
-fn faulty(number: u8, place: usize) -> Checked
-    ensures { result ≡ Faulty (refused_for number place) }
+fn faulty(number: u8, place: usize) -> Result<(), Refusal>
+    ensures { result ≡ Err (refused_for number place) }
 {
-    Checked::Faulty(Refusal {
+    Err(Refusal {
         number: number,
         value: place,
     })
@@ -167,7 +165,7 @@ fn too_long(total: u64, milliseconds: u64) -> bool
 }
 
 // What a press is refused for: 2 and 3 at the key's place, 11 at the time's.
-fn check(progress: Progress, milliseconds: u64, key: u32, key_at: usize, time_at: usize) -> Checked
+fn check(progress: Progress, milliseconds: u64, key: u32, key_at: usize, time_at: usize) -> Result<(), Refusal>
     ensures { result ≡ checked_of progress (press milliseconds key) key_at time_at }
 {
     let space = key == SPACE as u32;
@@ -180,10 +178,10 @@ fn check(progress: Progress, milliseconds: u64, key: u32, key_at: usize, time_at
     if too_long(progress.milliseconds, milliseconds) {
         return faulty(11, time_at);
     }
-    Checked::Fine
+    Ok(())
 }
 
-fn staying(x: Press, at: usize, progress: Progress) -> Stepped
+fn staying(x: Result<Option<KeyPress>, Refusal>, at: usize, progress: Progress) -> Stepped
     ensures { result ≡ staying_of x at progress }
 {
     Stepped {
@@ -196,7 +194,7 @@ fn staying(x: Press, at: usize, progress: Progress) -> Stepped
 fn cut_short(place: usize, at: usize, progress: Progress) -> Stepped
     ensures { result ≡ refused_step 10 place at progress }
 {
-    let cut = Press::Refused(Refusal {
+    let cut = Err(Refusal {
         number: 10,
         value: place,
     });
@@ -208,47 +206,47 @@ pub fn step_at(recording: &[u8], at: usize, progress: Progress) -> Stepped
     ensures { result ≡ step_at_of recording.now at progress }
 {
     if recording.len() <= at {
-        return staying(Press::End, at, progress);
+        return staying(Ok(None), at, progress);
     }
-    let NumberAnswer::Read(time) = groups::number_at(recording, at) else {
+    let Some(time) = groups::number_at(recording, at) else {
         return cut_short(at, at, progress);
     };
     let key_at = at + time.groups;
-    let NumberAnswer::Read(key) = groups::number_at(recording, key_at) else {
+    let Some(key) = groups::number_at(recording, key_at) else {
         return cut_short(key_at, at, progress);
     };
     let answer = check(progress, time.value as u64, key.value, key_at, at);
-    if let Checked::Faulty(r) = answer {
-        return staying(Press::Refused(r), at, progress);
+    if let Err(r) = answer {
+        return staying(Err(r), at, progress);
     }
     let x = KeyPress {
         milliseconds: time.value,
         key: key.value as u8,
     };
     Stepped {
-        press: Press::Pressed(x),
+        press: Ok(Some(x)),
         at: key_at + key.groups,
         progress: progress.onward(x),
     }
 }
 
 // The first faulty press of a drill, by its place.
-fn first_fault(mode: u8, presses: &[u64]) -> Checked
+fn first_fault(mode: u8, presses: &[u64]) -> Result<(), Refusal>
     ensures { result ≡ checked_from (none_yet mode) 0 (map press_in presses.now) }
 {
     let mut progress = Progress::new(mode);
     for (i, &n) in presses.iter().enumerate() {
         let given = Given::new(n);
         let answer = check(progress, given.milliseconds, given.key as u32, i, i);
-        if let Checked::Faulty(r) = answer {
-            return Checked::Faulty(r);
+        if let Err(r) = answer {
+            return Err(r);
         }
         progress = progress.onward(KeyPress {
             milliseconds: given.milliseconds as u32,
             key: given.key,
         });
     }
-    Checked::Fine
+    Ok(())
 }
 
 // How many bytes a drill takes.
@@ -297,25 +295,25 @@ fn put_drill(mode: u8, presses: &[u64], out: &mut [u8]) -> usize
 }
 
 // A drill as a recording, at the front of the output; each press is its key and 256 times its milliseconds. Refusals: 1; at the first faulty press 2, 3, 11 with its place; 4 with the bytes needed. The output is then as it was.
-pub fn write(mode: u8, presses: &[u64], out: &mut [u8]) -> WriteAnswer
+pub fn write(mode: u8, presses: &[u64], out: &mut [u8]) -> Result<usize, Refusal>
     ensures { (result ≡ (written_drill mode presses.now out.old).answer) × (out.new ≡ (written_drill mode presses.now out.old).output) }
 {
     if !keys::is_mode(mode) {
-        return WriteAnswer::Refused(Refusal {
+        return Err(Refusal {
             number: 1,
             value: 0,
         });
     }
     let fault = first_fault(mode, presses);
-    if let Checked::Faulty(r) = fault {
-        return WriteAnswer::Refused(r);
+    if let Err(r) = fault {
+        return Err(r);
     }
     let needed = bytes_needed(mode, presses);
     if out.len() < needed {
-        return WriteAnswer::Refused(Refusal {
+        return Err(Refusal {
             number: 4,
             value: needed,
         });
     }
-    WriteAnswer::Wrote(put_drill(mode, presses, out))
+    Ok(put_drill(mode, presses, out))
 }

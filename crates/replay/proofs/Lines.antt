@@ -1,8 +1,8 @@
 -- Lines of words: a text and a newline at the front of a line, the line of a word in range, and what comes back of the keys of a word.
+use Rattle.std.specs.Prelude.{Option, Ok, Err}
 use mathlib.Core.Path.{◌≡◌, refl, sym, ap, subst, ◌∙◌}
 use mathlib.Core.Bool.{Bool, not, false, ◌&&◌}
 use mathlib.Core.List.{List, [], ◌∷◌, ◌++◌, append_assoc, map}
-use mathlib.Core.Option.{Option}
 use Prim.Native.Nat.{ℕ, suc, ◌+◌, ◌-◌, ◌≤◌, ◌<◌}
 use native.Mathlib.Numerals.{add-one}
 use native.Mathlib.Omega.{arith}
@@ -21,8 +21,6 @@ use Rattle.rules.specs.declared.Word.{Word}
 use Rattle.rules.specs.declared.Refusal.{Refusal}
 use Rattle.rules.specs.declared.Decision.{Decision}
 use Rattle.rules.specs.declared.Decision.TheVariants.{Keep, Restore}
-use Rattle.rules.specs.declared.TypeAnswer.TheVariants.{AllTyped}
-use Rattle.rules.specs.declared.TypeAnswer.TheVariants.{Refused as TypeRefused}
 use Rattle.rules.proofs.NotRefused.{refused_as, not_refused, typed_word}
 use Rattle.rules.proofs.Range.{in_range}
 use Rattle.rules.proofs.StaysInRange.{read_front}
@@ -31,8 +29,6 @@ use Rattle.show.specs.Filling.{room_text}
 use Rattle.commit.proofs.Answers.{text_made, decides}
 use Rattle.replay.specs.Replays.{WordReplayed, committed_line, done_of, word_or, word_replayed}
 use Rattle.replay.specs.declared.WordDone.{WordDone}
-use Rattle.replay.specs.declared.WordAnswer.TheVariants.{Committed}
-use Rattle.replay.specs.declared.WordAnswer.TheVariants.{Refused as WordRefused}
 
 -- a text at the front of a line, and a newline behind it
 ended : (text old : List ℕ) (n : ℕ) (line : List ℕ) → length text < length old → n ≡ length text → line ≡ at_front text old
@@ -94,13 +90,13 @@ module _ (w : Word) (range : out_of_range w ≡ false) where
 
 -- keys that are refused, and keys that are typed
 module _ (m : ℕ) (ks line : List ℕ) where
-  pub refused_word : (x : Refusal) → (type_all m ks).answer ≡ TypeRefused x → word_replayed m ks line ≡ record { answer = WordRefused x; line = line }
+  pub refused_word : (x : Refusal) → (type_all m ks).answer ≡ Err x → word_replayed m ks line ≡ record { answer = Err x; line = line }
   unfolding word_replayed
   refused_word x e = ap (λ (o : Option Refusal). word_or o m ks line) (refused_as m ks x e)
 
   abbrev committed_as : Typed → WordReplayed
-  committed_as z = record { answer = Committed (done_of z); line = at_front (committed_line z) line }
+  committed_as z = record { answer = Ok (done_of z); line = at_front (committed_line z) line }
 
-  pub committed_word : (type_all m ks).answer ≡ AllTyped → committed_as (word_of (type_all m ks).word) ≡ word_replayed m ks line
+  pub committed_word : (type_all m ks).answer ≡ (Ok tt) → committed_as (word_of (type_all m ks).word) ≡ word_replayed m ks line
   unfolding word_replayed
   committed_word a = ap committed_as (typed_word m ks a) ∙ sym (ap (λ (o : Option Refusal). word_or o m ks line) (not_refused m ks a))

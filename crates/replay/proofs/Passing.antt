@@ -1,4 +1,5 @@
 -- How far a pass has come: the words so far, the keys of the word that has begun, and that what is still to be read ends as the whole does.
+use Rattle.std.specs.Prelude.{Ok, Err}
 use mathlib.Core.Path.{◌≡◌, refl, sym, ap, subst, ◌∙◌}
 use mathlib.Core.Bool.{Bool, true, false, not, ◌||◌}
 use mathlib.Core.List.{List, [], ◌∷◌, ◌++◌, append-nil}
@@ -19,7 +20,6 @@ use Rattle.recording.specs.Recordings.{is_space, in_word, onward, begin, broken,
 use Rattle.recording.specs.declared.Progress.{Progress}
 use Rattle.recording.specs.declared.KeyPress.{KeyPress}
 use Rattle.recording.specs.declared.Begun.{Begun}
-use Rattle.recording.specs.declared.BeginAnswer.TheVariants.{Begins}
 use Rattle.recording.proofs.Presses.{IsFine, has_room}
 use Rattle.recording.proofs.Openings.{opened}
 use Rattle.recording.proofs.Readings.{rest_from, enough}
@@ -27,7 +27,6 @@ use Rattle.recording.proofs.Needed.{put_more}
 use Rattle.replay.specs.Replays.{last_word, committed_line, Tally, of_word, nothing, together, of_words}
 use Rattle.replay.specs.Passes.{total_of, Outcome, finished, outcome, throughout, found_of, passage_of, LinesPut, FitsKeys, line_at, some_keys, total_if, keys_unless, output_if}
 use Rattle.replay.specs.declared.Found.{Found}
-use Rattle.replay.specs.declared.Passage.TheVariants.{Passed, Broken}
 use Rattle.replay.proofs.Totals.{one_or_none, has_room as line_there, as_long}
 use Rattle.replay.proofs.Words.{line_long, its_counts}
 use Rattle.replay.proofs.Tallies.{with_one, with_last, at_space, at_key}
@@ -170,7 +169,7 @@ module _ {s out₀ : List ℕ} {at₀ : ℕ} {p₀ : Progress} {out : List ℕ} 
       go false e t k o = after_key e total' keys' out' t k o
 
 -- at the start: behind the mode nothing is pressed yet
-module _ (s out₀ : List ℕ) (b : Begun) (e : begin s ≡ Begins b) where
+module _ (s out₀ : List ℕ) (b : Begun) (e : begin s ≡ Ok b) where
   pub started : {total : Found} → total ≡ total_of nothing → Going s out₀ b.at b.progress out₀ b.at b.progress (replicate 32 0) total
   started {total} t =
       let o = opened s b e in
@@ -204,7 +203,7 @@ module _ (s out₀ : List ℕ) (b : Begun) (e : begin s ≡ Begins b) where
     the_whole : throughout s b ≡ outcome p.mode g.tally word p.milliseconds (rest_from s at p)
     the_whole = ap (outcome b.progress.mode nothing [] b.progress.milliseconds) (enough s (length s) (length s - b.at) b.at b.progress (omega arith) (omega arith)) ∙ sym g.same
 
-    pub broken_off : {r : Refusal} → rest_from s at p ≡ broken r → (Broken r ≡ passage_of (throughout s b)) × LinesPut (throughout s b) out₀ out
+    pub broken_off : {r : Refusal} → rest_from s at p ≡ broken r → (Err r ≡ passage_of (throughout s b)) × LinesPut (throughout s b) out₀ out
     broken_off r =
         let q = the_whole ∙ ap (outcome p.mode g.tally word p.milliseconds) r in
         (sym (ap passage_of q), subst (λ (o : Outcome). LinesPut o out₀ out) (sym q) tt)
@@ -215,9 +214,9 @@ module _ (s out₀ : List ℕ) (b : Begun) (e : begin s ≡ Begins b) where
         subst (λ (l : List ℕ). length (g.tally.text ++ l) ≤ length out₀ → out' ≡ at_front (g.tally.text ++ l) out₀) (sym (append-nil (committed_line (typed p.mode (k ∷ ks))))) (line_put g (committed_line (typed p.mode (k ∷ ks))) o) h
 
     pub all_passed : rest_from s at p ≡ presses [] → {ks : List ℕ} → ks ≡ word → {total' : Found} {out' : List ℕ} {f : Found} → total' ≡ total_if (some_keys ks) p.mode ks total → out' ≡ output_if (some_keys ks) p.mode ks total out
-        → f ≡ found_of total' p.milliseconds → (Passed f ≡ passage_of (throughout s b)) × LinesPut (throughout s b) out₀ out'
+        → f ≡ found_of total' p.milliseconds → (Ok f ≡ passage_of (throughout s b)) × LinesPut (throughout s b) out₀ out'
     all_passed e {ks} k {total'} {out'} {f} t o d =
         let time : p.milliseconds + 0 ≡ p.milliseconds = omega arith in
         let q = the_whole ∙ ap (outcome p.mode g.tally word p.milliseconds) e ∙ (λ i. finished (together g.tally (of_words p.mode (last_word (sym k i)))) (time i)) in
         let all = t ∙ ap (total_if (some_keys ks) p.mode ks) g.is_total ∙ with_last g.tally p.mode ks in
-        (ap Passed (d ∙ ap (λ (u : Found). found_of u p.milliseconds) all) ∙ sym (ap passage_of q), subst (λ (u : Outcome). LinesPut u out₀ out') (sym q) (last_put ks o))
+        (ap Ok (d ∙ ap (λ (u : Found). found_of u p.milliseconds) all) ∙ sym (ap passage_of q), subst (λ (u : Outcome). LinesPut u out₀ out') (sym q) (last_put ks o))

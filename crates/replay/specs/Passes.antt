@@ -1,15 +1,14 @@
 -- What one pass over a recording finds, from a place on, with the words so far and the keys of the word that has begun.
-use Rattle.std.specs.Prelude.{◌≡◌, Bool, true, false, List, [], ◌∷◌, ◌++◌, ℕ, ◌+◌, ◌*◌, ◌^◌, ◌≤◌, ◌<◌, T, leb, length, take, drop, set}
+use Rattle.std.specs.Prelude.{◌≡◌, Bool, true, false, List, [], ◌∷◌, ◌++◌, ℕ, ◌+◌, ◌*◌, ◌^◌, ◌≤◌, ◌<◌, T, leb, length, take, drop, set, Result, Ok, Err}
 use Rattle.rules.specs.TheWord.{at_front}
 use Rattle.rules.specs.WhatComesBack.{typed}
 use Rattle.rules.specs.declared.Refusal.{Refusal}
 use Rattle.recording.specs.Recordings.{Reading, broken, presses, read_from}
 use Rattle.recording.specs.declared.Begun.{Begun}
 use Rattle.replay.specs.Replays.{committed_line, Tally, if_kept, if_restored, nothing, together, of_words, words_from, milliseconds, summary, done_of}
-use Rattle.replay.specs.declared.Passage.{Passage}
-use Rattle.replay.specs.declared.Passage.TheVariants.{Passed, Broken}
 use Rattle.replay.specs.declared.Found.{Found}
 use Rattle.replay.specs.declared.WordDone.{WordDone}
+use Rattle.rules.specs.declared.Outcome.{Outcome}
 
 -- the numbers of a tally: of its text the length
 abbrev pub total_of : Tally → Found
@@ -34,9 +33,9 @@ found_of t ms =
       summary = record { words = u.words; kept = u.kept; restored = u.restored; acted = u.acted; undone = u.undone; appended = u.appended; milliseconds = ms };
     }
 
-abbrev pub passage_of : Outcome → Passage
-passage_of (stopped r) = Broken r
-passage_of (finished t ms) = Passed (found_of (total_of t) ms)
+abbrev pub passage_of : Outcome → Result Found Refusal
+passage_of (stopped r) = Err r
+passage_of (finished t ms) = Ok (found_of (total_of t) ms)
 
 -- the lines stand at the front of the output, where there was room for all of them
 abbrev pub LinesPut : Outcome → (before after : List ℕ) → Type 0

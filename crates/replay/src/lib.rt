@@ -9,12 +9,11 @@ ghost use Rattle.rules.specs.Refusals.{all, is_mode, out_of_range};
 ghost use Rattle.rules.specs.WhatComesBack.{typed};
 ghost use Rattle.show.specs.Filling.{room_text};
 ghost use Rattle.recording.specs.Recordings.{is_space, begin};
-ghost use Rattle.recording.specs.declared.BeginAnswer.TheVariants.{Begins};
 ghost use Rattle.replay.specs.Replays.{committed_line, done_of, word_replayed, refused_replay, replayed};
 ghost use Rattle.replay.specs.Passes.{throughout, passage_of, LinesPut, with_done, Fits, FitsKeys, line_at, some_keys, total_if, keys_unless, output_if};
 
-use recording::{BeginAnswer, Begun, Press, Progress, SPACE};
-use rules::{Decision, Refusal, TypeAnswer, Word, WriteAnswer};
+use recording::{Begun, Progress, SPACE};
+use rules::{Decision, Refusal, Word};
 
 // The words, those kept and restored, the keys that acted, undid and were appended, and all milliseconds.
 #[derive(Clone, Copy, Default)]
@@ -30,7 +29,7 @@ pub struct Summary {
 
 #[derive(Clone, Copy)]
 pub struct ReplayAnswer {
-    pub answer: WriteAnswer,
+    pub answer: Result<usize, Refusal>,
     pub summary: Summary,
 }
 
@@ -110,15 +109,15 @@ fn line_of(w: Word, line: &mut [u8; LINE]) -> WordDone
 }
 
 // One word typed and committed: its line at the front of `line`, a newline behind it. Refusals: 1, 2, 3; the line is then as it was.
-pub fn commit_word(mode: u8, keys: &[u8], line: &mut [u8; LINE]) -> WordAnswer
+pub fn commit_word(mode: u8, keys: &[u8], line: &mut [u8; LINE]) -> Result<WordDone, Refusal>
     ensures { (result ≡ (word_replayed mode keys.now line.old).answer) × (line.new ≡ (word_replayed mode keys.now line.old).line) }
 {
     let all = word::type_all(mode, keys);
     let answer = all.answer;
-    if let TypeAnswer::Refused(refusal) = answer {
-        return WordAnswer::Refused(refusal);
+    if let Err(refusal) = answer {
+        return Err(refusal);
     }
-    WordAnswer::Committed(line_of(all.word, line))
+    Ok(line_of(all.word, line))
 }
 
 // A line at a place of the output, where there is room for it; else nothing.
@@ -192,8 +191,8 @@ fn press(
 }
 
 // All of a recording behind its mode, each line put where there is room for it.
-fn pass(recording: &[u8], begun: Begun, out: &mut [u8]) -> Passage
-    requires { begin recording.now ≡ Begins begun }
+fn pass(recording: &[u8], begun: Begun, out: &mut [u8]) -> Result<Found, Refusal>
+    requires { begin recording.now ≡ Ok begun }
     ensures { (result ≡ passage_of (throughout recording.now begun)) × LinesPut (throughout recording.now begun) out.old out.new }
 {
     let mut at = begun.at;
@@ -204,42 +203,42 @@ fn pass(recording: &[u8], begun: Begun, out: &mut [u8]) -> Passage
         let step = recording::step_at(recording, at, progress);
         let met = step.press;
         match met {
-            Press::Pressed(x) => {
+            Ok(Some(x)) => {
                 press(progress, x.key, &mut keys, &mut found, out);
                 at = step.at;
                 progress = step.progress;
             }
-            Press::End => {
+            Ok(None) => {
                 break;
             }
-            Press::Refused(refusal) => {
-                return Passage::Broken(refusal);
+            Err(refusal) => {
+                return Err(refusal);
             }
         }
     }
     found.add_last(progress.mode, &keys[..progress.in_word], out);
     found.summary.milliseconds = progress.milliseconds as u32;
-    Passage::Passed(found)
+    Ok(found)
 }
 
 fn refused(refusal: Refusal) -> ReplayAnswer
     ensures { result ≡ (refused_replay refusal []).result }
 {
     ReplayAnswer {
-        answer: WriteAnswer::Refused(refusal),
+        answer: Err(refusal),
         summary: Summary::default(),
     }
 }
 
 // The first pass writes nothing: it finds what is refused, the bytes needed and the summary. Only then is the output touched.
 fn replay_from(recording: &[u8], begun: Begun, out: &mut [u8]) -> ReplayAnswer
-    requires { begin recording.now ≡ Begins begun }
+    requires { begin recording.now ≡ Ok begun }
     ensures { (result ≡ (replayed recording.now out.old).result) × (out.new ≡ (replayed recording.now out.old).output) }
 {
     let first = pass(recording, begun, &mut out[0..0]);
     match first {
-        Passage::Broken(refusal) => refused(refusal),
-        Passage::Passed(found) => {
+        Err(refusal) => refused(refusal),
+        Ok(found) => {
             let needed = found.written;
             if out.len() < needed {
                 return refused(Refusal {
@@ -250,7 +249,7 @@ fn replay_from(recording: &[u8], begun: Begun, out: &mut [u8]) -> ReplayAnswer
             pass(recording, begun, out);
             let summary = found.summary;
             ReplayAnswer {
-                answer: WriteAnswer::Wrote(needed),
+                answer: Ok(needed),
                 summary: summary,
             }
         }
@@ -264,7 +263,7 @@ pub fn replay(recording: &[u8], out: &mut [u8]) -> ReplayAnswer
 {
     let mode = recording::begin(recording);
     match mode {
-        BeginAnswer::Refused(refusal) => refused(refusal),
-        BeginAnswer::Begins(begun) => replay_from(recording, begun, out),
+        Err(refusal) => refused(refusal),
+        Ok(begun) => replay_from(recording, begun, out),
     }
 }

@@ -139,7 +139,7 @@ pub const TILDE: u8 = 4;
 pub const DOT: u8 = 5;
 
 // What a key is for, in its mode. The three families: tone with clear, vowel shape, stroke.
-#[derive(Clone, Copy)]
+#[derive(Clone, Copy, Debug, PartialEq, Eq)]
 pub enum Role {
     ToneRole(ToneKey),
     ShapeRole(ShapeKey),
@@ -147,14 +147,14 @@ pub enum Role {
     NoRole,
 }
 
-#[derive(Clone, Copy)]
+#[derive(Clone, Copy, Debug, PartialEq, Eq)]
 pub enum ToneKey {
     SetTone(u8),
     ClearTone,
 }
 
 // Telex's circumflex keys stand each for its own letter, VNI's for a, e and o; HornBreve is Telex's w.
-#[derive(Clone, Copy)]
+#[derive(Clone, Copy, Debug, PartialEq, Eq)]
 pub enum ShapeKey {
     CircumflexOn(u8),
     Circumflex,
@@ -164,14 +164,14 @@ pub enum ShapeKey {
 }
 
 // What a key did: acted, and as what; undone; or appended.
-#[derive(Clone, Copy)]
+#[derive(Clone, Copy, Debug, PartialEq, Eq)]
 pub enum Outcome {
     Acted(Act),
     Undone,
     Appended,
 }
 
-#[derive(Clone, Copy)]
+#[derive(Clone, Copy, Debug, PartialEq, Eq)]
 pub enum Act {
     Tone(u8),
     Shape(u8),
@@ -180,94 +180,40 @@ pub enum Act {
 }
 
 // The letters that a key put a shape on or took it off: none, one, or one and the next.
-#[derive(Clone, Copy)]
+#[derive(Clone, Copy, Debug, PartialEq, Eq)]
 pub enum Touched {
     NoLetter,
     OneLetter(usize),
     TwoLetters(usize),
 }
 
-#[derive(Clone, Copy)]
-pub enum Place {
-    At(usize),
-    Nowhere,
-}
-
-#[derive(Clone, Copy)]
+#[derive(Clone, Copy, Debug, PartialEq, Eq)]
 pub enum Decision {
     Keep,
     Restore,
 }
 
 // A refusal: its number in the table, and the number returned.
-#[derive(Clone, Copy)]
+#[derive(Clone, Copy, Debug, PartialEq, Eq)]
 pub struct Refusal {
     pub number: u8,
     pub value: usize,
 }
 
-#[derive(Clone, Copy)]
-pub enum StartAnswer {
-    Started,
-    Refused(Refusal),
-}
-
 #[derive(Drop)]
 pub struct Start {
-    pub answer: StartAnswer,
+    pub answer: Result<(), Refusal>,
     pub word: Word,
-}
-
-#[derive(Clone, Copy)]
-pub enum StepAnswer {
-    Did(Outcome),
-    Refused(Refusal),
 }
 
 #[derive(Drop)]
 pub struct Step {
-    pub answer: StepAnswer,
+    pub answer: Result<Outcome, Refusal>,
     pub word: Word,
-}
-
-#[derive(Clone, Copy)]
-pub enum TypeAnswer {
-    AllTyped,
-    Refused(Refusal),
 }
 
 #[derive(Drop)]
 pub struct TypeAll {
-    pub answer: TypeAnswer,
+    pub answer: Result<(), Refusal>,
     pub word: Word,
-}
-
-#[derive(Clone, Copy)]
-pub enum WriteAnswer {
-    Wrote(usize),
-    Refused(Refusal),
-}
-
-#[derive(Clone, Copy)]
-pub enum PlaceAnswer {
-    Found(Place),
-    Refused(Refusal),
-}
-
-#[derive(Clone, Copy)]
-pub enum VerdictAnswer {
-    Judged(u8),
-    Refused(Refusal),
-}
-
-#[derive(Clone, Copy)]
-pub enum DecisionAnswer {
-    Decided(Decision),
-    Refused(Refusal),
-}
-
-#[derive(Clone, Copy)]
-pub enum CommitAnswer {
-    Granted,
-    Refused(Refusal),
 }

@@ -5,7 +5,7 @@ ghost use Rattle.std.specs.Prelude.{◌≡◌};
 ghost use Rattle.rules.specs.WhatComesBack.{step as step_of};
 ghost use Rattle.session.specs.Sessions.{session_of};
 
-use rules::{StepAnswer, Word};
+use rules::{Outcome, Refusal, Word};
 
 #[derive(Drop)]
 pub struct Session {
@@ -13,7 +13,7 @@ pub struct Session {
 }
 
 // One key. Refusals: 8, 2, 3; the session is then as it was.
-pub fn type_key(s: &mut Session, key: u8) -> StepAnswer
+pub fn type_key(s: &mut Session, key: u8) -> Result<Outcome, Refusal>
     ensures { (result ≡ (step_of s.old.word key).answer) × (s.new ≡ session_of (step_of s.old.word key)) }
 {
     let t = step::step(s.word, key);

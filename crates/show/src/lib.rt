@@ -9,7 +9,7 @@ ghost use Rattle.rules.specs.TonePlace.{tone_place};
 ghost use Rattle.letters.specs.Writing.{bytes_if, letter_bytes};
 ghost use Rattle.show.specs.Filling.{tone_if, toned_at, text_from, room_text, text_out};
 
-use rules::{NO_TONE, Place, Refusal, Word, WriteAnswer};
+use rules::{NO_TONE, Refusal, Word};
 
 // The UTF-8 bytes of a code point from a place of the text on; the place after them. No code point (0) shows nothing.
 fn put_point(text: &mut [u8], at: usize, point: u16) -> usize
@@ -66,7 +66,7 @@ fn toned(letters: &[u16], tone: u8) -> usize
         return n;
     }
     let place = parts::tone_place(letters, tone);
-    let Place::At(at) = place else {
+    let Some(at) = place else {
         return n;
     };
     at
@@ -75,7 +75,7 @@ fn toned(letters: &[u16], tone: u8) -> usize
 // The bytes of the letters, with the tone on the one at its place, at the front of the text; how many they are.
 fn fill(text: &mut [u8], letters: &[u16], toned: usize, tone: u8) -> usize
     requires { 3 * length letters.now ≤ length text.old }
-    ensures { (result ≡ length (text_from (Place.At toned) tone 0 letters.now)) × (text.new ≡ at_front (text_from (Place.At toned) tone 0 letters.now) text.old) }
+    ensures { (result ≡ length (text_from (Some toned) tone 0 letters.now)) × (text.new ≡ at_front (text_from (Some toned) tone 0 letters.now) text.old) }
 {
     let mut at = 0;
     for (i, &letter) in letters.iter().enumerate() {
@@ -100,18 +100,18 @@ pub fn in_room(letters: &[u16], tone: u8, out: &mut [u8]) -> usize
 
 // The text of letters with the tone on the one at its place, at the front of the output. A number that is no letter shows nothing.
 // Refusals: 2 with 32 where there are more than 32 letters, then 4 with the bytes needed; the output is then as it was.
-pub fn text(letters: &[u16], tone: u8, out: &mut [u8]) -> WriteAnswer
+pub fn text(letters: &[u16], tone: u8, out: &mut [u8]) -> Result<usize, Refusal>
     ensures { (result ≡ (text_out letters.now tone out.old).answer) × (out.new ≡ (text_out letters.now tone out.old).output) }
 {
     if Word::KEYS < letters.len() {
-        return WriteAnswer::Refused(Refusal {
+        return Err(Refusal {
             number: 2,
             value: Word::KEYS,
         });
     }
     // With room for any text it is made where it is to stand; else it is made first, and its length then known.
     if Word::TEXT <= out.len() {
-        return WriteAnswer::Wrote(in_room(letters, tone, out));
+        return Ok(in_room(letters, tone, out));
     }
     let mut made = [0; Word::TEXT];
     let needed = in_room(letters, tone, &mut made);
@@ -119,11 +119,11 @@ pub fn text(letters: &[u16], tone: u8, out: &mut [u8]) -> WriteAnswer
 }
 
 // The text of a word that is lent, at the front of the output. Refusals: 8, then 4 with the bytes needed; the output is then as it was.
-pub fn show_in(w: &Word, out: &mut [u8]) -> WriteAnswer
+pub fn show_in(w: &Word, out: &mut [u8]) -> Result<usize, Refusal>
     ensures { (result ≡ (show_of w.now out.old).answer) × (out.new ≡ (show_of w.now out.old).output) }
 {
     if records::lent_out_of_range(w) {
-        return WriteAnswer::Refused(Refusal {
+        return Err(Refusal {
             number: 8,
             value: 0,
         });
@@ -132,7 +132,7 @@ pub fn show_in(w: &Word, out: &mut [u8]) -> WriteAnswer
 }
 
 // The same of a record.
-pub fn show(w: Word, out: &mut [u8]) -> WriteAnswer
+pub fn show(w: Word, out: &mut [u8]) -> Result<usize, Refusal>
     ensures { (result ≡ (show_of w out.old).answer) × (out.new ≡ (show_of w out.old).output) }
 {
     show_in(&w, out)

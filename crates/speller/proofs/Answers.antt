@@ -1,4 +1,5 @@
 -- The answers by their tests: each refusal is the row of its test, and past them all the standard keys are written.
+use Rattle.std.specs.Prelude.{Result}
 use mathlib.Core.Path.{◌≡◌, sym, ap, ap₂, subst, ◌∙◌}
 use mathlib.Core.Bool.{true, false, not}
 use mathlib.Core.List.{List, map}
@@ -14,10 +15,10 @@ use Rattle.rules.specs.CodePoints.{Sign}
 use Rattle.rules.specs.Speller.{read, stuck_at, reading, letters_in, fault, standard_keys, spelled}
 use Rattle.rules.specs.Refusals.{is_mode, refusal}
 use Rattle.rules.specs.WhatComesBack.{Written, spell}
-use Rattle.rules.specs.declared.WriteAnswer.{WriteAnswer}
 use Rattle.output.specs.Front.{put}
 use Rattle.speller.specs.declared.ReadSoFar.{ReadSoFar}
 use Rattle.speller.specs.TextRead.{have_capitals, ReadInto, refused_write}
+use Rattle.rules.specs.declared.Refusal.{Refusal}
 
 -- the letters that are read: the front of the array
 module _ {text ns : List ℕ} {r : ReadSoFar} (into : ReadInto text ns r) where
@@ -37,7 +38,7 @@ module _ {text ns : List ℕ} {r : ReadSoFar} (into : ReadInto text ns r) where
 abbrev unwritten : ℕ → ℕ → List ℕ → Written
 unwritten n v out = record { answer = refused_write n v; output = out }
 
-pub refuses : {w : Written} {n v : ℕ} {out : List ℕ} {a : WriteAnswer} → a ≡ refused_write n v → w ≡ unwritten n v out → (a ≡ w.answer) × (out ≡ w.output)
+pub refuses : {w : Written} {n v : ℕ} {out : List ℕ} {a : Result ℕ Refusal} → a ≡ refused_write n v → w ≡ unwritten n v out → (a ≡ w.answer) × (out ≡ w.output)
 refuses e k = (e ∙ sym (ap (λ (x : Written). x.answer) k), sym (ap (λ (x : Written). x.output) k))
 
 module _ (m : ℕ) (text out : List ℕ) where

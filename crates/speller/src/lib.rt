@@ -13,10 +13,7 @@ ghost use Rattle.speller.specs.TextRead.{reading_of, ReadInto, same_place as sam
 
 use key_list::KeyList;
 use letters::LetterRead;
-use rules::{
-    ACUTE, BREVE, CIRCUMFLEX, DOT, GRAVE, HOOK, HORN, NO_TONE, Place, Refusal, STROKE, TILDE, Word,
-    WriteAnswer,
-};
+use rules::{ACUTE, BREVE, CIRCUMFLEX, DOT, GRAVE, HOOK, HORN, NO_TONE, Refusal, STROKE, TILDE, Word};
 
 // A text as far as it is read: how many bytes and letters; the first tone, the place of the letter that carries it, and whether another letter carries one.
 #[derive(Clone, Copy)]
@@ -24,7 +21,7 @@ struct ReadSoFar {
     at: usize,
     count: usize,
     tone: u8,
-    place: Place,
+    place: Option<usize>,
     twice: bool,
 }
 
@@ -36,7 +33,7 @@ impl ReadSoFar {
             at: 0,
             count: 0,
             tone: NO_TONE,
-            place: Place::Nowhere,
+            place: None,
             twice: false,
         }
     }
@@ -49,7 +46,7 @@ impl ReadSoFar {
         if tone != NO_TONE {
             if self.tone == NO_TONE {
                 self.tone = tone;
-                self.place = Place::At(self.count);
+                self.place = Some(self.count);
             } else {
                 self.twice = true;
             }
@@ -100,16 +97,16 @@ fn read(text: &[u8], letters: &mut [u16]) -> ReadSoFar
     r
 }
 
-fn same_place(a: Place, b: Place) -> bool
+fn same_place(a: Option<usize>, b: Option<usize>) -> bool
     ensures { result ≡ same_place_of a b }
 {
-    let Place::At(m) = a else {
-        let Place::At(_) = b else {
+    let Some(m) = a else {
+        let Some(_) = b else {
             return true;
         };
         return false;
     };
-    let Place::At(n) = b else {
+    let Some(n) = b else {
         return false;
     };
     m == n
@@ -173,17 +170,17 @@ fn awaits_o(x: u16, behind: &[u16]) -> bool
     }
 }
 
-fn refused(number: u8, value: usize) -> WriteAnswer
+fn refused(number: u8, value: usize) -> Result<usize, Refusal>
     ensures { result ≡ refused_write number value }
 {
-    WriteAnswer::Refused(Refusal {
+    Err(Refusal {
         number: number,
         value: value,
     })
 }
 
 // Shown text back to its one standard key list. Refusals: 1, 2 (96), 6 with the place, 7 with 8, 1 to 7 or 9, then 4.
-pub fn spell(mode: u8, text: &[u8], out: &mut [u8]) -> WriteAnswer
+pub fn spell(mode: u8, text: &[u8], out: &mut [u8]) -> Result<usize, Refusal>
     ensures { (result ≡ (spell_of mode text.now out.old).answer) × (out.new ≡ (spell_of mode text.now out.old).output) }
 {
     if !keys::is_mode(mode) {

@@ -1,4 +1,5 @@
 -- The step over a record's bytes by its tests: no record, refused, or typed; and over the bytes of a word it is the step of that word.
+use Rattle.std.specs.Prelude.{Result, Ok, Err}
 use mathlib.Core.Path.{◌≡◌, refl, sym, ap, ap₂, subst, ◌∙◌}
 use mathlib.Core.Bool.{Bool, true, false, not, ◌||◌}
 use mathlib.Core.List.{List}
@@ -16,8 +17,6 @@ use Rattle.rules.specs.declared.Word.{Word}
 use Rattle.rules.specs.declared.Outcome.{Outcome}
 use Rattle.rules.specs.declared.Refusal.{Refusal}
 use Rattle.rules.specs.declared.Step.{Step}
-use Rattle.rules.specs.declared.StepAnswer.{StepAnswer}
-use Rattle.rules.specs.declared.StepAnswer.TheVariants.{Did, Refused}
 use Rattle.rules.proofs.Refused.{refused_step}
 use Rattle.rules.proofs.StaysInRange.{Whole, step_in_range}
 use Rattle.layout.specs.Places.{bytes_with, as_bytes, part, word_from, as_record, record_written, letters_put}
@@ -39,21 +38,21 @@ stepped_whole w k whole = go (out_of_range w) refl
     go false e = (step_in_range w k whole (subst (λ (b : Bool). T (not b)) (sym e) tt)).1
 
 module _ (bs : List ℕ) (key : ℕ) where
-  pub no_record : (as_record bs).is_record ≡ false → {a : StepAnswer} → a ≡ refused_with 8 0 → (a ≡ (step_at bs key).answer) × (bs ≡ (step_at bs key).bytes)
+  pub no_record : (as_record bs).is_record ≡ false → {a : Result Outcome Refusal} → a ≡ refused_with 8 0 → (a ≡ (step_at bs key).answer) × (bs ≡ (step_at bs key).bytes)
   unfolding step_at
   no_record e p = let q = ap (λ (b : Bool). step_if b (as_record bs).word key bs) e in (p ∙ sym (ap (λ (x : SteppedAt). x.answer) q), sym (ap (λ (x : SteppedAt). x.bytes) q))
 
   -- a key that was refused: the bytes are as they were
-  pub as_it_was : (x : Refusal) → (step_at bs key).answer ≡ Refused x → (step_at bs key).bytes ≡ bs
+  pub as_it_was : (x : Refusal) → (step_at bs key).answer ≡ Err x → (step_at bs key).bytes ≡ bs
   unfolding step_at
   as_it_was x = go (as_record bs).is_record
     where
-      go : (b : Bool) → (step_if b (as_record bs).word key bs).answer ≡ Refused x → (step_if b (as_record bs).word key bs).bytes ≡ bs
-      go true e = ap (λ (a : StepAnswer). bytes_after a (step (as_record bs).word key).word bs) e
+      go : (b : Bool) → (step_if b (as_record bs).word key bs).answer ≡ Err x → (step_if b (as_record bs).word key bs).bytes ≡ bs
+      go true e = ap (λ (a : Result Outcome Refusal). bytes_after a (step (as_record bs).word key).word bs) e
       go false e = refl
 
   -- a key that was taken: the bytes are a record, and now that of the step
-  module _ {o : Outcome} (d : (step_at bs key).answer ≡ Did o) where
+  module _ {o : Outcome} (d : (step_at bs key).answer ≡ Ok o) where
     abbrev w : Word
     w = (as_record bs).word
 
@@ -61,7 +60,7 @@ module _ (bs : List ℕ) (key : ℕ) where
     unfolding step_at
     was_record = go (as_record bs).is_record d
       where
-        go : (b : Bool) → (step_if b w key bs).answer ≡ Did o → b ≡ true
+        go : (b : Bool) → (step_if b w key bs).answer ≡ Ok o → b ≡ true
         go true e = refl
         go false e = let z : ◌≡◌ {A = ℕ} 0 1 = cc in absurd (omega arith)
 
@@ -69,11 +68,11 @@ module _ (bs : List ℕ) (key : ℕ) where
     unfolding step_at
     stepped = ap (λ (b : Bool). step_if b w key bs) was_record
 
-    pub was_done : (step w key).answer ≡ Did o
+    pub was_done : (step w key).answer ≡ Ok o
     was_done = sym (ap (λ (x : SteppedAt). x.answer) stepped) ∙ d
 
     pub now_written : (step_at bs key).bytes ≡ record_written (step w key).word bs
-    now_written = ap (λ (x : SteppedAt). x.bytes) stepped ∙ ap (λ (a : StepAnswer). bytes_after a (step w key).word bs) was_done
+    now_written = ap (λ (x : SteppedAt). x.bytes) stepped ∙ ap (λ (a : Result Outcome Refusal). bytes_after a (step w key).word bs) was_done
 
     pub now_held : as_record (step_at bs key).bytes ≡ record { is_record = true; word = (step w key).word }
     now_held = ap as_record (now_written ∙ written (step w key).word bs (read_long bs was_record)) ∙ written_read (step w key).word (stepped_whole w key (read_whole bs))
@@ -83,7 +82,7 @@ module _ (bs : List ℕ) (key : ℕ) where
     unfolding step_at
     is_step = sym (ap (λ (b : Bool). step_if b r.word key bs) t) ∙ ap (λ (y : RecordRead). step_if y.is_record y.word key bs) e
 
-    pub refuses : (number value : ℕ) {a : StepAnswer} → a ≡ refused_with number value → record { answer = refused_with number value; word = r.word } ≡ step r.word key →
+    pub refuses : (number value : ℕ) {a : Result Outcome Refusal} → a ≡ refused_with number value → record { answer = refused_with number value; word = r.word } ≡ step r.word key →
         (a ≡ (step_at bs key).answer) × (bs ≡ (step_at bs key).bytes)
     refuses number value p s =
         let q = ap (λ (x : Step). leaving x bs) s ∙ is_step in
@@ -91,10 +90,10 @@ module _ (bs : List ℕ) (key : ℕ) where
 
     -- a key that is not taken, by the one question of both
     module _ (range : out_of_range r.word ≡ false) {allowed : Bool} (k : allowed ≡ is_key r.word.mode key) where
-      pub takes_none : leb most_keys r.word.typed || not allowed ≡ true → {a : StepAnswer} → a ≡ not_taken r.word.typed → (a ≡ (step_at bs key).answer) × (bs ≡ (step_at bs key).bytes)
+      pub takes_none : leb most_keys r.word.typed || not allowed ≡ true → {a : Result Outcome Refusal} → a ≡ not_taken r.word.typed → (a ≡ (step_at bs key).answer) × (bs ≡ (step_at bs key).bytes)
       takes_none f {a} p = go (leb most_keys r.word.typed) refl f
         where
-          by_test : Bool → StepAnswer
+          by_test : Bool → Result Outcome Refusal
           by_test b = elim b [ true ↦ refused_with 2 most_keys | false ↦ refused_with 3 r.word.typed ]
 
           go : (b : Bool) → leb most_keys r.word.typed ≡ b → b || not allowed ≡ true → (a ≡ (step_at bs key).answer) × (bs ≡ (step_at bs key).bytes)
@@ -111,7 +110,7 @@ module _ (bs : List ℕ) (key : ℕ) where
 
     -- the key typed, and the letters put into their place
     pub types : {o : Outcome} {letters new : List ℕ} {v : Word} → Whole r.word → v ≡ r.word → TypedAt (step v key) bs o letters new → {put : List ℕ} → put ≡ letters_put letters new →
-        (Did o ≡ (step_at bs key).answer) × (put ≡ (step_at bs key).bytes)
+        (Ok o ≡ (step_at bs key).answer) × (put ≡ (step_at bs key).bytes)
     types {o} {letters} {new} whole same typed p =
         let d = subst (λ (w : Word). TypedAt (step w key) bs o letters new) same typed in
         let s = step r.word key in
@@ -119,7 +118,7 @@ module _ (bs : List ℕ) (key : ℕ) where
         let ls = part 40 64 bs in
         let there = letters_there ls (length_part 40 64 bs (omega arith)) s.word (stepped_whole r.word key whole) in
         let bytes = p ∙ ap₂ letters_put d.lettered d.stored ∙ there ∙ sym (written s.word bs long) in
-        (d.told ∙ ap (λ (x : SteppedAt). x.answer) is_step, bytes ∙ ap (λ (a : StepAnswer). bytes_after a s.word bs) d.told ∙ ap (λ (x : SteppedAt). x.bytes) is_step)
+        (d.told ∙ ap (λ (x : SteppedAt). x.answer) is_step, bytes ∙ ap (λ (a : Result Outcome Refusal). bytes_after a s.word bs) d.told ∙ ap (λ (x : SteppedAt). x.bytes) is_step)
 
     -- the word that the bytes hold is the one that was read
     module _ (n : Numbers) (numbered : n ≡ numbers_of r.word) {letters : List ℕ} (lettered : letters ≡ (as_record bs).word.letters) where
@@ -154,12 +153,12 @@ module _ (w : Word) (whole : Whole w) (key : ℕ) where
   pub leaves : (step_at (as_bytes w) key).bytes ≡ as_bytes (step w key).word
   leaves = ap (λ (x : SteppedAt). x.bytes) of_word ∙ go (step w key).answer refl
     where
-      go : (a : StepAnswer) → (step w key).answer ≡ a → bytes_after a (step w key).word (as_bytes w) ≡ as_bytes (step w key).word
-      go (Did o) e = written (step w key).word (as_bytes w) (long_word w whole)
-      go (Refused x) e = sym (ap as_bytes (refused_step w key x (ap step_says e)))
+      go : (a : Result Outcome Refusal) → (step w key).answer ≡ a → bytes_after a (step w key).word (as_bytes w) ≡ as_bytes (step w key).word
+      go (Ok o) e = written (step w key).word (as_bytes w) (long_word w whole)
+      go (Err x) e = sym (ap as_bytes (refused_step w key x (ap step_says e)))
 
   -- lent, and read back
-  pub read_back : {a : StepAnswer} {before after : List ℕ} {r : RecordRead} (old : List ℕ) → length old ≡ 169 → before ≡ record_written w old → a ≡ (step_at before key).answer → after ≡ (step_at before key).bytes → r ≡ as_record after →
+  pub read_back : {a : Result Outcome Refusal} {before after : List ℕ} {r : RecordRead} (old : List ℕ) → length old ≡ 169 → before ≡ record_written w old → a ≡ (step_at before key).answer → after ≡ (step_at before key).bytes → r ≡ as_record after →
       record { answer = a; word = r.word } ≡ step w key
   read_back {a} {before} {after} {r} old long p q s e =
       let own = p ∙ written w old long in

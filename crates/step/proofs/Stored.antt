@@ -1,4 +1,5 @@
 -- What is stored by an edit of one letter, or of two, is the edit that the rule says; what is not admitted is put back.
+use Rattle.std.specs.Prelude.{Some}
 use mathlib.Core.Path.{◌≡◌, refl, sym, ap, ap₂, subst, ◌∙◌}
 use mathlib.Core.Bool.{Bool, true, false, ◌&&◌}
 use mathlib.Core.List.{List, [], ◌∷◌, ◌++◌, map}
@@ -17,7 +18,6 @@ use Rattle.rules.specs.KeyRoles.{shaped, target, change, only_if, asked}
 use Rattle.rules.specs.declared.Act.TheVariants.{Shape}
 use Rattle.rules.specs.declared.Touched.{Touched}
 use Rattle.rules.specs.declared.Touched.TheVariants.{OneLetter, TwoLetters}
-use Rattle.rules.specs.declared.Place.TheVariants.{At}
 use Rattle.targets.specs.Aims.{reshape, shape_at, one_at, both_reshaped, pair_at}
 use Rattle.step.specs.declared.Edit.TheVariants.{Nothing, Off, Change}
 use Rattle.step.specs.LentLetters.{LettersInFront, LetterThere, Edits, paired}
@@ -48,7 +48,7 @@ module _ (l : List ℕ) (n i kind : ℕ) (aimed : LetterThere l n i kind) where
       shape_at_law (take n l) i (omega (arith, length-take-le n l (within l n aimed.given), aimed.inside)) ∙ ap (λ (k : ℕ). (letter k).shape) (get_or-take n l i 0 aimed.inside)
 
   -- the mark is there already
-  pub taken_off : (v : ℕ) → v ≡ number (shaped plain (letter (get_or l i 0))) → (letter (get_or l i 0)).shape ≡ kind → Edits (asked kind (one_at kind (At i) (map letter (take n l)))) l (Off (OneLetter i)) (set l i v)
+  pub taken_off : (v : ℕ) → v ≡ number (shaped plain (letter (get_or l i 0))) → (letter (get_or l i 0)).shape ≡ kind → Edits (asked kind (one_at kind (Some i) (map letter (take n l)))) l (Off (OneLetter i)) (set l i v)
   taken_off v e s =
       off_there l kind (OneLetter i) (reshape i plain word) (reshape i kind word) (set l i v) (eq-eqb (shape_at i word) kind (shape_there ∙ s))
       (ap (set l i) e ∙ stored l n aimed.given i plain aimed.inside)
@@ -64,10 +64,10 @@ module _ (l : List ℕ) (n i kind : ℕ) (aimed : LetterThere l n i kind) where
     read : map letter (take n (set l i v)) ≡ reshape i kind word
     read = ap (λ (m : List ℕ). map letter (take n m)) on ∙ read_stored l n aimed.given i kind aimed.inside aimed.shape
 
-    pub one_stays : q ≡ true → Edits (asked kind (one_at kind (At i) (map letter (take n l)))) l (Change (Shape kind) (OneLetter i)) (set l i v)
+    pub one_stays : q ≡ true → Edits (asked kind (one_at kind (Some i) (map letter (take n l)))) l (Change (Shape kind) (OneLetter i)) (set l i v)
     one_stays t = stays l (set l i v) n kind (OneLetter i) (reshape i plain word) (reshape i kind word) not_there read p t (on ∙ stored l n aimed.given i kind aimed.inside)
 
-    pub one_back : q ≡ false → Edits (asked kind (one_at kind (At i) (map letter (take n l)))) l Nothing (set (set l i v) i (get_or l i 0))
+    pub one_back : q ≡ false → Edits (asked kind (one_at kind (Some i) (map letter (take n l)))) l Nothing (set (set l i v) i (get_or l i 0))
     one_back t = put_back l (set l i v) n kind (OneLetter i) (reshape i plain word) (reshape i kind word) not_there read p t _ (set-set l i v (get_or l i 0) ∙ set-get_or l i 0)
 
 -- a place that the front covers
@@ -145,7 +145,7 @@ module _ (l : List ℕ) (n i : ℕ) (aimed : LetterThere l n (i + 1) horn) where
   word_on = both_reshaped i horn (map letter (take n l))
 
   pub pair_off : (v x : ℕ) (on : List ℕ) → v ≡ number (shaped plain (letter (get_or l i 0))) → x ≡ number (shaped plain (letter (get_or l (i + 1) 0))) → on ≡ paired l i v x → shapes ≡ true →
-      Edits (asked horn (pair_at (At i) (map letter (take n l)))) l (Off (TwoLetters i)) on
+      Edits (asked horn (pair_at (Some i) (map letter (take n l)))) l (Off (TwoLetters i)) on
   pair_off v x on e f o s = off_there l horn (TwoLetters i) word_off word_on on (flag ∙ s) (o ∙ both_on l n i plain at_plain v x e f ∙ both_stored l n i plain at_plain)
 
   module _ (v x : ℕ) (on : List ℕ) (e : v ≡ number (shaped horn (letter (get_or l i 0)))) (f : x ≡ number (shaped horn (letter (get_or l (i + 1) 0)))) (o : on ≡ paired l i v x) (s : shapes ≡ false) {q : Bool} (p : q ≡ admitted (map letter (take (n - 0) (drop 0 on)))) where
@@ -155,8 +155,8 @@ module _ (l : List ℕ) (n i : ℕ) (aimed : LetterThere l n (i + 1) horn) where
     two_read : map letter (take n on) ≡ word_on
     two_read = ap (λ (m : List ℕ). map letter (take n m)) two ∙ both_read l n i horn aimed
 
-    pub pair_stays : q ≡ true → Edits (asked horn (pair_at (At i) (map letter (take n l)))) l (Change (Shape horn) (TwoLetters i)) on
+    pub pair_stays : q ≡ true → Edits (asked horn (pair_at (Some i) (map letter (take n l)))) l (Change (Shape horn) (TwoLetters i)) on
     pair_stays t = stays l on n horn (TwoLetters i) word_off word_on (flag ∙ s) two_read p t (two ∙ both_stored l n i horn aimed)
 
-    pub pair_back : q ≡ false → (back : List ℕ) → back ≡ paired on i (get_or l i 0) (get_or l (i + 1) 0) → Edits (asked horn (pair_at (At i) (map letter (take n l)))) l Nothing back
+    pub pair_back : q ≡ false → (back : List ℕ) → back ≡ paired on i (get_or l i 0) (get_or l (i + 1) 0) → Edits (asked horn (pair_at (Some i) (map letter (take n l)))) l Nothing back
     pair_back t back h = put_back l on n horn (TwoLetters i) word_off word_on (flag ∙ s) two_read p t back (h ∙ ap (λ (m : List ℕ). paired m i (get_or l i 0) (get_or l (i + 1) 0)) o ∙ paired_back l i v x)

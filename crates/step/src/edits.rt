@@ -9,12 +9,12 @@ ghost use Rattle.targets.specs.Aims.{one_at, pair_at};
 ghost use Rattle.step.specs.LentLetters.{LettersInFront, LetterThere, Edits, paired};
 
 use crate::Edit;
-use rules::{Act, BREVE, CIRCUMFLEX, HORN, PLAIN, Place, STROKE, ShapeKey, Touched};
+use rules::{Act, BREVE, CIRCUMFLEX, HORN, PLAIN, STROKE, ShapeKey, Touched};
 
 // A shape on the letter at a place: taken off if it is there already.
 fn at(letters: &mut [u16], count: usize, i: usize, kind: u8) -> Edit
     requires { LetterThere letters.old count i kind }
-    ensures { Edits (asked_of kind (one_at kind (Place.At i) (map letter (take count letters.old)))) letters.old result letters.new }
+    ensures { Edits (asked_of kind (one_at kind (Some i) (map letter (take count letters.old)))) letters.old result letters.new }
 {
     let old = letters[i];
     if rules::shape(old) == kind {
@@ -42,7 +42,7 @@ fn put_pair(letters: &mut [u16], i: usize, first: u16, second: u16)
 // A horn on a letter and the next, both together: taken off if both have it already.
 fn both(letters: &mut [u16], count: usize, i: usize) -> Edit
     requires { LetterThere letters.old count (i + 1) horn }
-    ensures { Edits (asked_of horn (pair_at (Place.At i) (map letter (take count letters.old)))) letters.old result letters.new }
+    ensures { Edits (asked_of horn (pair_at (Some i) (map letter (take count letters.old)))) letters.old result letters.new }
 {
     let u = letters[i];
     let o = letters[i + 1];
@@ -77,11 +77,11 @@ fn horn_edit(letters: &mut [u16], count: usize) -> Edit
         return at(letters, count, count - 1, HORN);
     }
     let pair = targets::pair(&letters[0..count]);
-    if let Place::At(i) = pair {
+    if let Some(i) = pair {
         return both(letters, count, i);
     }
     let single = targets::single(&letters[0..count]);
-    let Place::At(i) = single else {
+    let Some(i) = single else {
         return Edit::Nothing;
     };
     at(letters, count, i, HORN)
@@ -93,7 +93,7 @@ fn last_edit(letters: &mut [u16], count: usize, key: ShapeKey, kind: u8) -> Edit
     ensures { Edits (asked_of kind (last (wanted key) kind (map letter (take count letters.old)))) letters.old result letters.new }
 {
     let place = targets::last_wanted(&letters[0..count], key);
-    let Place::At(i) = place else {
+    let Some(i) = place else {
         return Edit::Nothing;
     };
     at(letters, count, i, kind)
@@ -105,7 +105,7 @@ fn own_edit(letters: &mut [u16], count: usize, own: u8) -> Edit
     ensures { Edits (asked_of circumflex (circumflex_on own (map letter (take count letters.old)))) letters.old result letters.new }
 {
     let place = targets::last_own(&letters[0..count], own);
-    let Place::At(i) = place else {
+    let Some(i) = place else {
         return Edit::Nothing;
     };
     at(letters, count, i, CIRCUMFLEX)

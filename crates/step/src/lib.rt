@@ -10,7 +10,7 @@ ghost use Rattle.step.specs.LentLetters.{LettersInFront, RoomForLetter, NoSecond
 ghost use Rattle.step.specs.InPlace.{held_in, ReadyAt, TypedAt, refused_with, not_taken as not_taken_of, step_at as step_at_of};
 
 use records::Numbers;
-use rules::{Act, HORN, NO_TONE, Outcome, Refusal, Role, Step, StepAnswer, ToneKey, Touched, Word};
+use rules::{Act, HORN, NO_TONE, Outcome, Refusal, Role, Step, ToneKey, Touched, Word};
 
 mod edits;
 mod keeping;
@@ -286,10 +286,10 @@ fn typed(lent: &mut [u8], letters: &mut [u16], mode: u8, n: Numbers, key: u8) ->
     outcome
 }
 
-fn refused(number: u8, value: usize) -> StepAnswer
+fn refused(number: u8, value: usize) -> Result<Outcome, Refusal>
     ensures { result ≡ refused_with number value }
 {
-    StepAnswer::Refused(Refusal {
+    Err(Refusal {
         number: number,
         value: value,
     })
@@ -297,7 +297,7 @@ fn refused(number: u8, value: usize) -> StepAnswer
 
 // A key that is not taken: the word is full, or else its mode does not allow the key. One question leads here and not two: what stands
 // behind many, the compiler takes for seldom run.
-fn not_taken(at: usize) -> StepAnswer
+fn not_taken(at: usize) -> Result<Outcome, Refusal>
     ensures { result ≡ not_taken_of at }
 {
     if Word::KEYS <= at {
@@ -308,14 +308,12 @@ fn not_taken(at: usize) -> StepAnswer
 
 // One key, typed into a word that is lent as its record's bytes, where they lie. Refusals: 8, also for bytes that are no record, 2, 3; the
 // bytes are then as they were.
-pub fn step_at(lent: &mut [u8], key: u8) -> StepAnswer
+pub fn step_at(lent: &mut [u8], key: u8) -> Result<Outcome, Refusal>
     ensures { (result ≡ (step_at_of lent.old key).answer) × (lent.new ≡ (step_at_of lent.old key).bytes) }
 {
-    let reading = layout::read(lent);
-    if !reading.is_record {
+    let Some(w) = layout::read(lent) else {
         return refused(8, 0);
-    }
-    let w = reading.word;
+    };
     let mode = w.mode;
     let n = records::numbers_of(w);
     if records::numbers_wrong(&w) | records::places_wrong(&w) {
@@ -334,7 +332,7 @@ pub fn step_at(lent: &mut [u8], key: u8) -> StepAnswer
     }
     let outcome = typed(lent, &mut letters, mode, n, key);
     layout::put_letters(&letters, lent);
-    StepAnswer::Did(outcome)
+    Ok(outcome)
 }
 
 // One key. Refusals: 8, 2, 3; the word is then as it was.

@@ -8,12 +8,11 @@ use borrow.Author.Tests.{eq-eqb, ne_eqb, leb-true, leb-false, lt-ltb, le-ltb}
 use lib.Dec.{leb}
 use lib.ListN.{length, take, drop, set, length-take, length-drop, take-append-drop, drop_of_length-le}
 use lib.Seq.{take_all}
-use Rattle.std.specs.Prelude.{Option, Some, None}
+use Rattle.std.specs.Prelude.{Option, Some, None, Ok, Err}
 use Rattle.rules.specs.TheWord.{at_front}
 use Rattle.rules.specs.WhatComesBack.{Written}
 use Rattle.rules.specs.Drill.{newline}
 use Rattle.rules.specs.declared.Refusal.{Refusal}
-use Rattle.rules.specs.declared.WriteAnswer.TheVariants.{Wrote, Refused}
 use Rattle.output.specs.Front.{put}
 use Rattle.output.proofs.Rooms.{has_room as fits, no_room as too_long}
 use Rattle.lines.specs.Programs.{answer_of, line_answer}
@@ -43,26 +42,26 @@ module _ (text out : List ℕ) where
     pub many : n ≡ length text
     pub output : (put text out).output ≡ at_front text out
 
-  pub no_room : (x : Refusal) → (put text out).answer ≡ Refused x → NoRoom
+  pub no_room : (x : Refusal) → (put text out).answer ≡ Err x → NoRoom
   no_room x e = go (leb (length text) (length out)) refl
     where
       go : (b : Bool) → leb (length text) (length out) ≡ b → NoRoom
       go true d =
-          let f : Wrote (length text) ≡ Refused x = sym (ap (λ (y : Written). y.answer) (fits text out (leb-true (length text) (length out) d))) ∙ e in
+          let f : Ok (length text) ≡ Err x = sym (ap (λ (y : Written). y.answer) (fits text out (leb-true (length text) (length out) d))) ∙ e in
           let z : ◌≡◌ {A = ℕ} 0 1 = cc in
           absurd (omega arith)
       go false d = record { test = d; output = ap (λ (y : Written). y.output) (too_long text out (leb-false (length text) (length out) d)) }
 
-  pub room : (n : ℕ) → (put text out).answer ≡ Wrote n → Room n
+  pub room : (n : ℕ) → (put text out).answer ≡ Ok n → Room n
   room n e = go (leb (length text) (length out)) refl
     where
       go : (b : Bool) → leb (length text) (length out) ≡ b → Room n
       go true d =
           let g = fits text out (leb-true (length text) (length out) d) in
-          let f : Wrote (length text) ≡ Wrote n = sym (ap (λ (y : Written). y.answer) g) ∙ e in
+          let f : Ok (length text) ≡ Ok n = sym (ap (λ (y : Written). y.answer) g) ∙ e in
           record { test = d; many = cc; output = ap (λ (y : Written). y.output) g }
       go false d =
-          let f : Refused (record { number = 4; value = length text }) ≡ Wrote n = sym (ap (λ (y : Written). y.answer) (too_long text out (leb-false (length text) (length out) d))) ∙ e in
+          let f : Err (record { number = 4; value = length text }) ≡ Ok n = sym (ap (λ (y : Written). y.answer) (too_long text out (leb-false (length text) (length out) d))) ∙ e in
           let z : ◌≡◌ {A = ℕ} 0 1 = cc in
           absurd (omega arith)
 
@@ -111,14 +110,14 @@ module _ (s : Begun) (b : ℕ) (out : List ℕ) (at : ℕ) (inside : at ≤ leng
     unfolding byte_fed
     newlined fit e = ap₂ (λ (c d : Bool). byte_if c d s b) (eq-eqb b newline nl) (ap₂ (λ (k : List ℕ) (n : ℕ). leb (length (answer_of s.program k)) n) (sym l) (sym room_there) ∙ e)
 
-    pub is_stuck : (x : Refusal) → (line_answer s.program line (take left (drop at out))).answer ≡ Refused x → part ≡ (line_answer s.program line (take left (drop at out))).output
+    pub is_stuck : (x : Refusal) → (line_answer s.program line (take left (drop at out))).answer ≡ Err x → part ≡ (line_answer s.program line (take left (drop at out))).output
         → Stepped None s (take at out ++ (part ++ drop left (drop at out)))
     is_stuck x a p =
         let no = no_room (answer_of s.program line) (take left (drop at out)) x a in
         let f : ByteFed = record { state = s; text = []; stuck = true } in
         stepped f None s (take at out ++ (part ++ drop left (drop at out))) (newlined false no.test) refl refl (as_it_was part (p ∙ no.output))
 
-    pub is_answered : (n : ℕ) → (line_answer s.program line (take left (drop at out))).answer ≡ Wrote n → part ≡ (line_answer s.program line (take left (drop at out))).output
+    pub is_answered : (n : ℕ) → (line_answer s.program line (take left (drop at out))).answer ≡ Ok n → part ≡ (line_answer s.program line (take left (drop at out))).output
         → Stepped (Some (at + n)) (ended s) (take at out ++ (part ++ drop left (drop at out)))
     is_answered n a p =
         let yes = room (answer_of s.program line) (take left (drop at out)) n a in
@@ -129,7 +128,7 @@ module _ (s : Begun) (b : ℕ) (out : List ℕ) (at : ℕ) (inside : at ≤ leng
         stepped f (Some (at + n)) (ended s) (take at out ++ (part ++ drop left (drop at out))) (newlined true yes.test) (ap (λ (k : ℕ). Some (at + k)) long) refl
         (ap₂ (λ (x y : List ℕ). take at out ++ (x ++ y)) front behind ∙ ap (λ (x : List ℕ). take at out ++ x) (append-nil (at_front text (drop at out))))
 
-    pub fits_there : (n : ℕ) → (line_answer s.program line (take left (drop at out))).answer ≡ Wrote n → at + n ≤ length out
+    pub fits_there : (n : ℕ) → (line_answer s.program line (take left (drop at out))).answer ≡ Ok n → at + n ≤ length out
     fits_there n a =
         let yes = room (answer_of s.program line) (take left (drop at out)) n a in
         omega (arith, yes.many, leb-true (length (answer_of s.program line)) (length (take left (drop at out))) yes.test, room_there)

@@ -9,7 +9,6 @@ ghost use Rattle.lines.specs.declared.Program.{Program};
 ghost use Rattle.stream.specs.Feeding.{none_begun, line_of, kept, byte_fed, place_after, feeding, put_at, fed_of, finishing};
 
 use lines::Program;
-use rules::WriteAnswer;
 
 // The program, and the line that has begun: its first bytes, as many as an answer can depend on, and how many they are.
 #[derive(Clone, Copy)]
@@ -67,7 +66,7 @@ impl Begun {
             return Some(at);
         }
         let answer = lines::answer_line(self.program, self.held(), &mut out[at..]);
-        let WriteAnswer::Wrote(written) = answer else {
+        let Ok(written) = answer else {
             return None;
         };
         self.length = 0;
@@ -76,7 +75,7 @@ impl Begun {
 }
 
 // What stands in front of all answers, at the front of the output: the drill's first line, and nothing for the speller. Refusals: 4 with the bytes needed; the output is then as it was.
-pub fn header(program: Program, out: &mut [u8]) -> WriteAnswer
+pub fn header(program: Program, out: &mut [u8]) -> Result<usize, Refusal>
     ensures { (result ≡ (put (header_of program) out.old).answer) × (out.new ≡ (put (header_of program) out.old).output) }
 {
     match program {
@@ -114,11 +113,11 @@ pub fn feed(mut state: Begun, block: &[u8], from: usize, out: &mut [u8]) -> Fed
 }
 
 // The end of the input: a last line without a newline, if one has begun. Refusals: 4 with the bytes needed; the output is then as it was.
-pub fn finish(state: Begun, out: &mut [u8]) -> WriteAnswer
+pub fn finish(state: Begun, out: &mut [u8]) -> Result<usize, Refusal>
     ensures { (result ≡ (finishing state out.old).answer) × (out.new ≡ (finishing state out.old).output) }
 {
     if state.length == 0 {
-        return WriteAnswer::Wrote(0);
+        return Ok(0);
     }
     lines::answer_line(state.program, state.held(), out)
 }

@@ -7,7 +7,7 @@ ghost use Rattle.rules.specs.TheWord.{letter};
 ghost use Rattle.rules.specs.KeyRoles.{own as own_of, is_aeo as is_aeo_of, is_q as is_q_of, is_pair as is_pair_of, is_single as is_single_of, horns_o_alone as horns_o_alone_of, awaits_second_horn as awaits_second_horn_of};
 ghost use Rattle.targets.specs.Places.{wanted, place_of, last_place, pair_place, single_place};
 
-use rules::{CIRCUMFLEX, HORN, PLAIN, Place, ShapeKey};
+use rules::{CIRCUMFLEX, HORN, PLAIN, ShapeKey};
 
 // Circumflex wants its own letter, or a, e or o; breve wants a.
 fn wants(key: ShapeKey, n: u16) -> bool
@@ -36,24 +36,24 @@ fn is_own(own: u8, b: u8) -> bool
 }
 
 // What was found, as a place.
-fn place(found: Option<usize>) -> Place
+fn place(found: Option<usize>) -> Option<usize>
     ensures { result ≡ place_of found }
 {
     match found {
-        Some(i) => Place::At(i),
-        None => Place::Nowhere,
+        Some(i) => Some(i),
+        None => None,
     }
 }
 
 // The last letter with a wanted base.
-pub fn last_wanted(letters: &[u16], key: ShapeKey) -> Place
+pub fn last_wanted(letters: &[u16], key: ShapeKey) -> Option<usize>
     ensures { result ≡ last_place (wanted key) (map letter letters.now) }
 {
     place(letters.iter().rposition(|n| wants(key, *n)))
 }
 
 // The last letter that a Telex circumflex key wants, its own: the same without asking at each letter which key it is.
-pub fn last_own(letters: &[u16], own: u8) -> Place
+pub fn last_own(letters: &[u16], own: u8) -> Option<usize>
     ensures { result ≡ last_place (own_of own) (map letter letters.now) }
 {
     place(letters.iter().rposition(|n| is_own(own, rules::base(*n))))
@@ -72,17 +72,17 @@ fn is_pair(after_q: bool, first: u16, second: u16) -> bool
 }
 
 // The first u followed directly by o, the u not directly after q.
-pub fn pair(letters: &[u16]) -> Place
+pub fn pair(letters: &[u16]) -> Option<usize>
     ensures { result ≡ pair_place false (map letter letters.now) }
 {
     let mut after_q = false;
     for (i, [first, second]) in letters.array_windows::<2>().enumerate() {
         if is_pair(after_q, *first, *second) {
-            return Place::At(i);
+            return Some(i);
         }
         after_q = is_q(*first);
     }
-    Place::Nowhere
+    None
 }
 
 fn is_single(after_q: bool, n: u16) -> bool
@@ -93,17 +93,17 @@ fn is_single(after_q: bool, n: u16) -> bool
 }
 
 // The first o or u not directly after q.
-pub fn single(letters: &[u16]) -> Place
+pub fn single(letters: &[u16]) -> Option<usize>
     ensures { result ≡ single_place false (map letter letters.now) }
 {
     let mut after_q = false;
     for (i, n) in letters.iter().enumerate() {
         if is_single(after_q, *n) {
-            return Place::At(i);
+            return Some(i);
         }
         after_q = is_q(*n);
     }
-    Place::Nowhere
+    None
 }
 
 // The words of the two rules on huo, from their end: each asks of the last letter, and then of those before it.

@@ -1,4 +1,5 @@
 -- The answers by their tests: typing a list, and the three questions on a word.
+use Rattle.std.specs.Prelude.{Ok, Err}
 use mathlib.Core.Path.{◌≡◌, refl, sym, ap}
 use mathlib.Core.Bool.{true, false, not, ◌&&◌}
 use mathlib.Core.List.{List, [], ◌∷◌, map}
@@ -17,13 +18,6 @@ use Rattle.rules.specs.Decision.{keeps, starts_with_đ}
 use Rattle.rules.specs.Refusals.{all, is_mode, allowed_before, out_of_range, refusal}
 use Rattle.rules.specs.WhatComesBack.{typed, type_all, place_answer, verdict_answer, decision_answer}
 use Rattle.rules.specs.declared.Word.{Word}
-use Rattle.rules.specs.declared.TypeAnswer.TheVariants.{AllTyped}
-use Rattle.rules.specs.declared.PlaceAnswer.TheVariants.{Found}
-use Rattle.rules.specs.declared.PlaceAnswer.TheVariants.{Refused as PlaceRefused}
-use Rattle.rules.specs.declared.VerdictAnswer.TheVariants.{Judged}
-use Rattle.rules.specs.declared.VerdictAnswer.TheVariants.{Refused as VerdictRefused}
-use Rattle.rules.specs.declared.DecisionAnswer.TheVariants.{Decided}
-use Rattle.rules.specs.declared.DecisionAnswer.TheVariants.{Refused as DecisionRefused}
 use Rattle.rules.proofs.Tests.{is_true}
 use Rattle.word.specs.Refusing.{refused_typing}
 use Rattle.word.specs.Deciding.{decided_by}
@@ -51,7 +45,7 @@ module _ (m : ℕ) (ks : List ℕ) where
   unfolding type_all refusal
   not_a_key e h n = simp (e, le-ltb most_keys (0 + length ks) (omega arith), n) (let z : 0 + allowed_before m ks ≡ allowed_before m ks = omega arith in ap (refused_typing 3) z)
 
-  pub all_typed : not (is_mode m) ≡ false → length ks ≤ most_keys → T (all (is_key m) ks) → type_all m ks ≡ record { answer = AllTyped; word = holding (new_word m) (typed m ks) }
+  pub all_typed : not (is_mode m) ≡ false → length ks ≤ most_keys → T (all (is_key m) ks) → type_all m ks ≡ record { answer = Ok tt; word = holding (new_word m) (typed m ks) }
   unfolding type_all refusal
   all_typed e h t = let n : all (is_key m) ks ≡ true = is_true (all (is_key m) ks) t in simp (e, le-ltb most_keys (0 + length ks) (omega arith), n)
 
@@ -63,26 +57,26 @@ is_front : (l : List ℕ) (n : ℕ) → part l n ≡ map letter (take n l)
 is_front l n = let e : n - 0 ≡ n = omega arith in ap (λ (m : ℕ). map letter (take m l)) e
 
 module _ (w : Word) where
-  pub place_refused : out_of_range w ≡ true → place_answer w ≡ PlaceRefused (record { number = 8; value = 0 })
+  pub place_refused : out_of_range w ≡ true → place_answer w ≡ Err (record { number = 8; value = 0 })
   unfolding place_answer refusal
   place_refused e = simp e
 
-  pub place_found : out_of_range w ≡ false → place_answer w ≡ Found (tone_place (part w.letters w.count) w.tone)
+  pub place_found : out_of_range w ≡ false → place_answer w ≡ Ok (tone_place (part w.letters w.count) w.tone)
   unfolding place_answer refusal
-  place_found e = simp e (ap (λ (v : Letters). Found (tone_place v w.tone)) (sym (is_front w.letters w.count)))
+  place_found e = simp e (ap (λ (v : Letters). Ok (tone_place v w.tone)) (sym (is_front w.letters w.count)))
 
-  pub verdict_refused : out_of_range w ≡ true → verdict_answer w ≡ VerdictRefused (record { number = 8; value = 0 })
+  pub verdict_refused : out_of_range w ≡ true → verdict_answer w ≡ Err (record { number = 8; value = 0 })
   unfolding verdict_answer refusal
   verdict_refused e = simp e
 
-  pub verdict_judged : out_of_range w ≡ false → verdict_answer w ≡ Judged (verdict (part w.letters w.count) w.tone)
+  pub verdict_judged : out_of_range w ≡ false → verdict_answer w ≡ Ok (verdict (part w.letters w.count) w.tone)
   unfolding verdict_answer refusal
-  verdict_judged e = simp e (ap (λ (v : Letters). Judged (verdict v w.tone)) (sym (is_front w.letters w.count)))
+  verdict_judged e = simp e (ap (λ (v : Letters). Ok (verdict v w.tone)) (sym (is_front w.letters w.count)))
 
-  pub decision_refused : out_of_range w ≡ true → decision_answer w ≡ DecisionRefused (record { number = 8; value = 0 })
+  pub decision_refused : out_of_range w ≡ true → decision_answer w ≡ Err (record { number = 8; value = 0 })
   unfolding decision_answer refusal
   decision_refused e = simp e
 
-  pub decided : out_of_range w ≡ false → decision_answer w ≡ Decided (decided_by (eqb w.acted 0 && eqb w.undone 0) w.closed (part w.letters w.count) (verdict (part w.letters w.count) w.tone))
+  pub decided : out_of_range w ≡ false → decision_answer w ≡ Ok (decided_by (eqb w.acted 0 && eqb w.undone 0) w.closed (part w.letters w.count) (verdict (part w.letters w.count) w.tone))
   unfolding decision_answer refusal keeps
-  decided e = simp e (ap (λ (v : Letters). Decided (decided_by (eqb w.acted 0 && eqb w.undone 0) w.closed v (verdict v w.tone))) (sym (is_front w.letters w.count)))
+  decided e = simp e (ap (λ (v : Letters). Ok (decided_by (eqb w.acted 0 && eqb w.undone 0) w.closed v (verdict v w.tone))) (sym (is_front w.letters w.count)))

@@ -10,10 +10,7 @@ ghost use Rattle.rules.specs.KeyRoles.{is_key};
 ghost use Rattle.rules.specs.Refusals.{all, is_mode as is_mode_of, allowed_before as allowed_before_of};
 ghost use Rattle.rules.specs.WhatComesBack.{start as start_of, typed, type_all as type_all_of, place_answer, verdict_answer, decision_answer};
 
-use rules::{
-    Decision, DecisionAnswer, PlaceAnswer, Refusal, STROKE, Start, StartAnswer, TypeAll,
-    TypeAnswer, VerdictAnswer, Word,
-};
+use rules::{Decision, Refusal, STROKE, Start, TypeAll, Word};
 
 // A new word in a mode. Refusals: 1.
 pub fn start(mode: u8) -> Start
@@ -21,18 +18,18 @@ pub fn start(mode: u8) -> Start
 {
     if mode == Word::TELEX {
         return Start {
-            answer: StartAnswer::Started,
+            answer: Ok(()),
             word: Word::telex(),
         };
     }
     if mode == Word::VNI {
         return Start {
-            answer: StartAnswer::Started,
+            answer: Ok(()),
             word: Word::vni(),
         };
     }
     Start {
-        answer: StartAnswer::Refused(Refusal {
+        answer: Err(Refusal {
             number: 1,
             value: 0,
         }),
@@ -67,7 +64,7 @@ fn refused(number: u8, value: usize) -> TypeAll
     ensures { result ≡ refused_typing number value }
 {
     TypeAll {
-        answer: TypeAnswer::Refused(Refusal {
+        answer: Err(Refusal {
             number: number,
             value: value,
         }),
@@ -89,47 +86,47 @@ pub fn type_all(mode: u8, keys: &[u8]) -> TypeAll
         return refused(3, place);
     }
     TypeAll {
-        answer: TypeAnswer::AllTyped,
+        answer: Ok(()),
         word: typed_all(mode, keys),
     }
 }
 
 // Where the tone is shown. Refusals: 8.
-pub fn place(w: Word) -> PlaceAnswer
+pub fn place(w: Word) -> Result<Option<usize>, Refusal>
     ensures { result ≡ place_answer w }
 {
     if records::out_of_range(w) {
-        return PlaceAnswer::Refused(Refusal {
+        return Err(Refusal {
             number: 8,
             value: 0,
         });
     }
     let letters = w.letters;
     let count = w.count as usize;
-    PlaceAnswer::Found(parts::tone_place(&letters[0..count], w.tone))
+    Ok(parts::tone_place(&letters[0..count], w.tone))
 }
 
 // The verdict. Refusals: 8.
-pub fn verdict(w: Word) -> VerdictAnswer
+pub fn verdict(w: Word) -> Result<u8, Refusal>
     ensures { result ≡ verdict_answer w }
 {
     if records::out_of_range(w) {
-        return VerdictAnswer::Refused(Refusal {
+        return Err(Refusal {
             number: 8,
             value: 0,
         });
     }
     let letters = w.letters;
     let count = w.count as usize;
-    VerdictAnswer::Judged(syllable::verdict(&letters[0..count], w.tone))
+    Ok(syllable::verdict(&letters[0..count], w.tone))
 }
 
 // Keep or restore. Refusals: 8.
-pub fn decision(w: Word) -> DecisionAnswer
+pub fn decision(w: Word) -> Result<Decision, Refusal>
     ensures { result ≡ decision_answer w }
 {
     if records::out_of_range(w) {
-        return DecisionAnswer::Refused(Refusal {
+        return Err(Refusal {
             number: 8,
             value: 0,
         });
@@ -138,7 +135,7 @@ pub fn decision(w: Word) -> DecisionAnswer
     let count = w.count as usize;
     let word = &letters[0..count];
     let untouched = (w.acted == 0) & (w.undone == 0);
-    DecisionAnswer::Decided(decided(word, untouched, w.closed, syllable::verdict(word, w.tone)))
+    Ok(decided(word, untouched, w.closed, syllable::verdict(word, w.tone)))
 }
 
 // Keep if no key acted or undid, or the word is closed, or its first letter is đ, or the verdict is 0; otherwise restore.

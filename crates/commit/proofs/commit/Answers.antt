@@ -22,8 +22,8 @@ returns-in-Restore c =
     let e = sym c.rule.ensures ∙ c.in-Restore.is in
     ((restored_part args.mode args.keys.now args.text.now e).0, sym (ap (λ (r : Ruling). handed_from r args.keys.ref_ptr args.text.ref_ptr) e))
 
-pub returns-in-Refused : goal.returns-in-Refused
-returns-in-Refused c =
+pub returns-in-Err : goal.returns-in-Err
+returns-in-Err c =
     let args = c.args in
-    let e = sym c.rule.ensures ∙ c.in-Refused.is in
+    let e = sym c.rule.ensures ∙ c.in-Err.is in
     ((refused_part args.mode args.keys.now args.text.now _ e).0, sym (ap (λ (r : Ruling). handed_from r args.keys.ref_ptr args.text.ref_ptr) e))

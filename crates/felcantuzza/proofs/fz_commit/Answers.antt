@@ -15,8 +15,8 @@ returns-in-Restore c =
     let e = committed args.mode args.keys.now args.text.now c.rule.result _ c.rule.ensures c.in-Restore.is in
     tells Calls.only_one (Calls.commit args.mode args.keys.now args.text.now) _ e c.answered-in-Restore.ensures.0 c.answered-in-Restore.ensures.1
 
-pub returns-in-Refused : goal.returns-in-Refused
-returns-in-Refused c =
+pub returns-in-Err : goal.returns-in-Err
+returns-in-Err c =
     let args = c.args in
-    let e = committed args.mode args.keys.now args.text.now c.rule.result _ c.rule.ensures c.in-Refused.is in
+    let e = committed args.mode args.keys.now args.text.now c.rule.result _ c.rule.ensures c.in-Err.is in
     refuses Calls.only_one (Calls.commit args.mode args.keys.now args.text.now) _ _ e c.refused.ensures.0 c.refused.ensures.1

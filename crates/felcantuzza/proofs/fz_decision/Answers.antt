@@ -12,14 +12,14 @@ returns-then-not-reading c =
     let e = none_decided lent c.read-reading.result c.read-reading.ensures (not-true _ c.if-not-reading.true) in
     refuses only_one (Calls.decision lent) 8 0 e c.no_record.ensures.0 c.no_record.ensures.1
 
-pub returns-in-Decided : goal.returns-in-Decided
-returns-in-Decided c =
+pub returns-in-Ok : goal.returns-in-Ok
+returns-in-Ok c =
     let lent = c.args.lent.now in
-    let e = decided lent c.read-reading.result c.read-reading.ensures (not-false _ c.if-not-reading.false) c.decision.result _ c.decision.ensures c.in-Decided.is in
+    let e = decided lent c.read-reading.result c.read-reading.ensures (not-false _ c.if-not-reading.false) c.decision.result _ c.decision.ensures c.in-Ok.is in
     tells only_one (Calls.decision lent) _ e c.answered.ensures.0 (c.answered.ensures.1 ∙ c.decision_number.ensures)
 
-pub returns-in-Refused : goal.returns-in-Refused
-returns-in-Refused c =
+pub returns-in-Err : goal.returns-in-Err
+returns-in-Err c =
     let lent = c.args.lent.now in
-    let e = decided lent c.read-reading.result c.read-reading.ensures (not-false _ c.if-not-reading.false) c.decision.result _ c.decision.ensures c.in-Refused.is in
+    let e = decided lent c.read-reading.result c.read-reading.ensures (not-false _ c.if-not-reading.false) c.decision.result _ c.decision.ensures c.in-Err.is in
     refuses only_one (Calls.decision lent) _ _ e c.refused.ensures.0 c.refused.ensures.1

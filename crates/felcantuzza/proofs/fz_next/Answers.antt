@@ -26,12 +26,12 @@ returns-in-End c =
     let m = moved s args.mode args.at.now args.in_word.now args.milliseconds.now c.step_at-step.ensures in
     (t.0, t.1, m.0, m.1, m.2)
 
-pub returns-in-Refused : goal.returns-in-Refused
-returns-in-Refused c =
+pub returns-in-Err : goal.returns-in-Err
+returns-in-Err c =
     let args = c.args in
     let s = args.recording.now in
     let said = Recordings.next s args.mode args.at.now args.in_word.now args.milliseconds.now in
-    let e = stepped s args.mode args.at.now args.in_word.now args.milliseconds.now c.step_at-step.ensures c.in-Refused.is in
+    let e = stepped s args.mode args.at.now args.in_word.now args.milliseconds.now c.step_at-step.ensures c.in-Err.is in
     let t = refuses Calls.only_one said _ _ e c.refused.ensures.0 c.refused.ensures.1 in
     let m = moved s args.mode args.at.now args.in_word.now args.milliseconds.now c.step_at-step.ensures in
     (t.0, t.1, m.0, m.1, m.2)

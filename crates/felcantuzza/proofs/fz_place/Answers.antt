@@ -12,14 +12,14 @@ returns-then-not-reading c =
     let e = none_placed lent c.read-reading.result c.read-reading.ensures (not-true _ c.if-not-reading.true) in
     refuses place_value (Calls.place lent) 8 0 e c.no_record.ensures.0 c.no_record.ensures.1
 
-pub returns-in-Found : goal.returns-in-Found
-returns-in-Found c =
+pub returns-in-Ok : goal.returns-in-Ok
+returns-in-Ok c =
     let lent = c.args.lent.now in
-    let e = placed lent c.read-reading.result c.read-reading.ensures (not-false _ c.if-not-reading.false) c.place.result _ c.place.ensures c.in-Found.is in
+    let e = placed lent c.read-reading.result c.read-reading.ensures (not-false _ c.if-not-reading.false) c.place.result _ c.place.ensures c.in-Ok.is in
     tells place_value (Calls.place lent) _ e c.answered.ensures.0 (c.answered.ensures.1 ∙ c.place_number.ensures)
 
-pub returns-in-Refused : goal.returns-in-Refused
-returns-in-Refused c =
+pub returns-in-Err : goal.returns-in-Err
+returns-in-Err c =
     let lent = c.args.lent.now in
-    let e = placed lent c.read-reading.result c.read-reading.ensures (not-false _ c.if-not-reading.false) c.place.result _ c.place.ensures c.in-Refused.is in
+    let e = placed lent c.read-reading.result c.read-reading.ensures (not-false _ c.if-not-reading.false) c.place.result _ c.place.ensures c.in-Err.is in
     refuses place_value (Calls.place lent) _ _ e c.refused.ensures.0 c.refused.ensures.1

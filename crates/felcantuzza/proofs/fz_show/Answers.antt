@@ -13,16 +13,16 @@ returns-then-not-reading c =
     let t = refuses Calls.only_one (Calls.show args.lent.now args.out.now) 8 0 e c.no_record.ensures.0 c.no_record.ensures.1 in
     (t.0, t.1, unchanged (Calls.show args.lent.now args.out.now) _ args.out.now 8 0 e)
 
-pub returns-in-Wrote : goal.returns-in-Wrote
-returns-in-Wrote c =
+pub returns-in-Ok : goal.returns-in-Ok
+returns-in-Ok c =
     let args = c.args in
-    let e = shown args.lent.now c.read-reading.result c.read-reading.ensures args.out.now c.if-not-reading.false c.show_in.result _ c.show_in.ensures.0 c.in-Wrote.is in
+    let e = shown args.lent.now c.read-reading.result c.read-reading.ensures args.out.now c.if-not-reading.false c.show_in.result _ c.show_in.ensures.0 c.in-Ok.is in
     let t = tells Calls.only_one (Calls.show args.lent.now args.out.now) _ e c.answered.ensures.0 c.answered.ensures.1 in
     (t.0, t.1, c.show_in.ensures.1 ∙ shown_output args.lent.now c.read-reading.result c.read-reading.ensures args.out.now ∙ changed (Calls.show args.lent.now args.out.now) _ args.out.now _ e)
 
-pub returns-in-Refused : goal.returns-in-Refused
-returns-in-Refused c =
+pub returns-in-Err : goal.returns-in-Err
+returns-in-Err c =
     let args = c.args in
-    let e = shown args.lent.now c.read-reading.result c.read-reading.ensures args.out.now c.if-not-reading.false c.show_in.result _ c.show_in.ensures.0 c.in-Refused.is in
+    let e = shown args.lent.now c.read-reading.result c.read-reading.ensures args.out.now c.if-not-reading.false c.show_in.result _ c.show_in.ensures.0 c.in-Err.is in
     let t = refuses Calls.only_one (Calls.show args.lent.now args.out.now) _ _ e c.refused.ensures.0 c.refused.ensures.1 in
-    (t.0, t.1, c.show_in.ensures.1 ∙ refused_show c.read-reading.result.word args.out.now _ (ap write_says (sym c.show_in.ensures.0 ∙ c.in-Refused.is)) ∙ unchanged (Calls.show args.lent.now args.out.now) _ args.out.now _ _ e)
+    (t.0, t.1, c.show_in.ensures.1 ∙ refused_show c.read-reading.result.word args.out.now _ (ap write_says (sym c.show_in.ensures.0 ∙ c.in-Err.is)) ∙ unchanged (Calls.show args.lent.now args.out.now) _ args.out.now _ _ e)

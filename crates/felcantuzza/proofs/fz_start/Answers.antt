@@ -20,9 +20,9 @@ returns-in-Started c =
     let t = tells Calls.only_one (Calls.start args.mode args.lent.now) _ e c.answered.ensures.0 c.answered.ensures.1 in
     (t.0, t.1, c.write.ensures.1 ∙ ap (λ (x : Start). record_written x.word args.lent.now) c.start-started.ensures ∙ changed (Calls.start args.mode args.lent.now) _ args.lent.now _ e)
 
-pub returns-in-Refused : goal.returns-in-Refused
-returns-in-Refused c =
+pub returns-in-Err : goal.returns-in-Err
+returns-in-Err c =
     let args = c.args in
-    let e = started args.mode args.lent.now c.if-lent-ne-LENGTH.false c.start-started.result _ c.start-started.ensures c.in-Refused.is in
+    let e = started args.mode args.lent.now c.if-lent-ne-LENGTH.false c.start-started.result _ c.start-started.ensures c.in-Err.is in
     let t = refuses Calls.only_one (Calls.start args.mode args.lent.now) _ _ e c.refused.ensures.0 c.refused.ensures.1 in
     (t.0, t.1, unchanged (Calls.start args.mode args.lent.now) _ args.lent.now _ _ e)

@@ -11,14 +11,14 @@ returns-then-not-reading c =
     let e = none_judged lent c.read-reading.result c.read-reading.ensures (not-true _ c.if-not-reading.true) in
     refuses only_one (Calls.verdict lent) 8 0 e c.no_record.ensures.0 c.no_record.ensures.1
 
-pub returns-in-Judged : goal.returns-in-Judged
-returns-in-Judged c =
+pub returns-in-Ok : goal.returns-in-Ok
+returns-in-Ok c =
     let lent = c.args.lent.now in
-    let e = judged lent c.read-reading.result c.read-reading.ensures (not-false _ c.if-not-reading.false) c.verdict.result _ c.verdict.ensures c.in-Judged.is in
+    let e = judged lent c.read-reading.result c.read-reading.ensures (not-false _ c.if-not-reading.false) c.verdict.result _ c.verdict.ensures c.in-Ok.is in
     tells only_one (Calls.verdict lent) _ e c.answered.ensures.0 c.answered.ensures.1
 
-pub returns-in-Refused : goal.returns-in-Refused
-returns-in-Refused c =
+pub returns-in-Err : goal.returns-in-Err
+returns-in-Err c =
     let lent = c.args.lent.now in
-    let e = judged lent c.read-reading.result c.read-reading.ensures (not-false _ c.if-not-reading.false) c.verdict.result _ c.verdict.ensures c.in-Refused.is in
+    let e = judged lent c.read-reading.result c.read-reading.ensures (not-false _ c.if-not-reading.false) c.verdict.result _ c.verdict.ensures c.in-Err.is in
     refuses only_one (Calls.verdict lent) _ _ e c.refused.ensures.0 c.refused.ensures.1

@@ -14,11 +14,11 @@ returns-then-not-reading c =
     let t = refuses Calls.only_one said 8 0 e c.no_record.ensures.0 c.no_record.ensures.1 in
     (t.0, no_outcome said 8 0 e, t.1, unchanged said _ args.lent.now 8 0 e, unchanged said _ args.out.now 8 0 e)
 
-pub returns-in-Did : goal.returns-in-Did
-returns-in-Did c =
+pub returns-in-Ok : goal.returns-in-Ok
+returns-in-Ok c =
     let args = c.args in
     let said = Calls.type_and_show args.lent.now args.key args.out.now in
-    let e = typed_shown args.lent.now c.read-reading.result c.read-reading.ensures args.key args.out.now c.press-shown.result c.press-shown.ensures.0 (not-false _ c.if-not-reading.false) _ c.in-Did.is in
+    let e = typed_shown args.lent.now c.read-reading.result c.read-reading.ensures args.key args.out.now c.press-shown.result c.press-shown.ensures.0 (not-false _ c.if-not-reading.false) _ c.in-Ok.is in
     let t = tells Calls.only_one said _ e c.answered.ensures.0 c.answered.ensures.1 in (
       t.0,
       c.outcome_number.ensures ∙ outcome_told said _ _ e,
@@ -27,13 +27,13 @@ returns-in-Did c =
       c.press-shown.ensures.1 ∙ typed_shown_output args.lent.now c.read-reading.result c.read-reading.ensures args.key args.out.now ∙ changed said _ args.out.now _ e,
     )
 
-pub returns-in-Refused : goal.returns-in-Refused
-returns-in-Refused c =
+pub returns-in-Err : goal.returns-in-Err
+returns-in-Err c =
     let args = c.args in
     let said = Calls.type_and_show args.lent.now args.key args.out.now in
-    let e = typed_shown args.lent.now c.read-reading.result c.read-reading.ensures args.key args.out.now c.press-shown.result c.press-shown.ensures.0 (not-false _ c.if-not-reading.false) _ c.in-Refused.is in
+    let e = typed_shown args.lent.now c.read-reading.result c.read-reading.ensures args.key args.out.now c.press-shown.result c.press-shown.ensures.0 (not-false _ c.if-not-reading.false) _ c.in-Err.is in
     let t = refuses Calls.only_one said _ _ e c.refused.ensures.0 c.refused.ensures.1 in
-    let no = sym (ap (λ (x : StepShown). x.answer) c.press-shown.ensures.0) ∙ c.in-Refused.is in (
+    let no = sym (ap (λ (x : StepShown). x.answer) c.press-shown.ensures.0) ∙ c.in-Err.is in (
       t.0,
       no_outcome said _ _ e,
       t.1,

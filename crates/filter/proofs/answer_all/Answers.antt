@@ -4,4 +4,4 @@ use Rattle.filter.proofs.answer_all.Goals as goal
 
 pub slice_bounds-written-end : goal.slice_bounds-written-end
 slice_bounds-written-end c =
-    header_in_front _ _ c.header.result c.in-Wrote.n c.in-Wrote.is c.args.program c.header.ensures.0 c.header.ensures.1
+    header_in_front _ _ c.header.result c.in-Ok.n c.in-Ok.is c.args.program c.header.ensures.0 c.header.ensures.1

@@ -5,4 +5,4 @@ use Rattle.filter.proofs.end.Goals as goal
 
 pub slice_bounds-written-end : goal.slice_bounds-written-end
 slice_bounds-written-end c =
-    last_in_front c.args.out.now _ c.finish.result c.in-Wrote.n c.in-Wrote.is c.args.state.program (line_of c.args.state) c.finish.ensures.0 c.finish.ensures.1
+    last_in_front c.args.out.now _ c.finish.result c.in-Ok.n c.in-Ok.is c.args.state.program (line_of c.args.state) c.finish.ensures.0 c.finish.ensures.1

@@ -10,9 +10,9 @@ pub returns-then-not-is_mode : goal.returns-then-not-is_mode
 returns-then-not-is_mode c =
     no_mode c.args.mode c.args.presses.now c.args.out.now (ap not (sym c.is_mode.ensures ∙ c.if-not-is_mode.true))
 
-pub returns-in-Faulty : goal.returns-in-Faulty
-returns-in-Faulty c =
-    one_faulty c.args.mode c.args.presses.now c.args.out.now (ap not (sym c.is_mode.ensures ∙ c.if-not-is_mode.false)) c.first_fault-fault.ensures c.in-Faulty.is
+pub returns-in-Err : goal.returns-in-Err
+returns-in-Err c =
+    one_faulty c.args.mode c.args.presses.now c.args.out.now (ap not (sym c.is_mode.ensures ∙ c.if-not-is_mode.false)) c.first_fault-fault.ensures c.in-Err.is
 
 pub bytes_needed-needed-requires : goal.bytes_needed-needed-requires
 bytes_needed-needed-requires c =

@@ -1,18 +1,18 @@
 -- `replay::commit_word` meets its contract: the refusal of the keys, or the line of the word that they make.
+use Rattle.std.specs.Prelude.{Ok}
 use mathlib.Core.Path.{sym, ap, ◌∙◌}
 use Rattle.rules.specs.TheWord.{word_of, at_front}
 use Rattle.rules.specs.Refusals.{out_of_range}
 use Rattle.rules.specs.declared.TypeAll.{TypeAll}
 use Rattle.rules.proofs.NotRefused.{typed_in_range}
 use Rattle.replay.specs.Replays.{WordReplayed, committed_line, done_of}
-use Rattle.replay.specs.declared.WordAnswer.TheVariants.{Committed}
 use Rattle.replay.proofs.Lines.{refused_word, committed_word}
 use Rattle.replay.proofs.commit_word.Goals as goal
 
-pub returns-in-Refused : goal.returns-in-Refused
-returns-in-Refused c =
+pub returns-in-Err : goal.returns-in-Err
+returns-in-Err c =
     let args = c.args in
-    let e = sym (refused_word args.mode args.keys.now args.line.now _ (sym (ap (λ (t : TypeAll). t.answer) c.type_all-all.ensures) ∙ c.in-Refused.is)) in
+    let e = sym (refused_word args.mode args.keys.now args.line.now _ (sym (ap (λ (t : TypeAll). t.answer) c.type_all-all.ensures) ∙ c.in-Err.is)) in
     (ap (λ (x : WordReplayed). x.answer) e, ap (λ (x : WordReplayed). x.line) e)
 
 pub line_of-requires : goal.line_of-requires
@@ -26,6 +26,6 @@ returns c =
     let args = c.args in
     let e = c.type_all-all.ensures in
     let f = committed_word args.mode args.keys.now args.line.now (sym (ap (λ (t : TypeAll). t.answer) e) ∙ c.in_default.is) in (
-      ap Committed (c.line_of.ensures.0 ∙ ap (λ (t : TypeAll). done_of (word_of t.word)) e) ∙ ap (λ (x : WordReplayed). x.answer) f,
+      ap Ok (c.line_of.ensures.0 ∙ ap (λ (t : TypeAll). done_of (word_of t.word)) e) ∙ ap (λ (x : WordReplayed). x.answer) f,
       c.line_of.ensures.1 ∙ ap (λ (t : TypeAll). at_front (committed_line (word_of t.word)) args.line.now) e ∙ ap (λ (x : WordReplayed). x.line) f,
     )

@@ -29,11 +29,11 @@ loop-x-preserved c =
     let m = met_press c.args.recording.now c.loop-x.at c.loop-x.progress c.step_at-step.ensures c.in-Pressed.x c.in-Pressed.is in
     one_more c.loop-x.invariant c.in-Pressed.x c.step_at-step.result.at m.fine m.on m.within m.read c.press.ensures.0 c.press.ensures.1 c.press.ensures.2 m.moved
 
-pub shape_of-out-in-Refused : goal.shape_of-out-in-Refused
-shape_of-out-in-Refused c = c.loop-x.invariant.long
+pub shape_of-out-in-Err : goal.shape_of-out-in-Err
+shape_of-out-in-Err c = c.loop-x.invariant.long
 
-pub returns-in-Refused : goal.returns-in-Refused
-returns-in-Refused c = broken_off c.args.recording.now c.args.out.now c.args.begun c.requires c.loop-x.invariant (met_refusal c.args.recording.now c.loop-x.at c.loop-x.progress c.step_at-step.ensures c.in-Refused.refusal c.in-Refused.is)
+pub returns-in-Err : goal.returns-in-Err
+returns-in-Err c = broken_off c.args.recording.now c.args.out.now c.args.begun c.requires c.loop-x.invariant (met_refusal c.args.recording.now c.loop-x.at c.loop-x.progress c.step_at-step.ensures c.in-Err.refusal c.in-Err.is)
 
 pub add_last-requires : goal.add_last-requires
 add_last-requires c =

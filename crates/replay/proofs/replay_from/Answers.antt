@@ -14,19 +14,19 @@ pub returns-then-out-needed : goal.returns-then-out-needed
 returns-then-out-needed c =
     let none : length c.pass-first.new.out ≡ 0 = omega arith in
     let untouched = none_in_front c.pass-first.new.out c.args.out.now none in
-    let e = too_short c.args.recording.now c.args.out.now c.args.begun c.requires c.in-Passed.found (sym c.pass-first.ensures.0 ∙ c.in-Passed.is) (omega (arith, c.if-out-needed.true, ap length untouched)) in
+    let e = too_short c.args.recording.now c.args.out.now c.args.begun c.requires c.in-Ok.found (sym c.pass-first.ensures.0 ∙ c.in-Ok.is) (omega (arith, c.if-out-needed.true, ap length untouched)) in
     (c.refused-then-out-needed.ensures ∙ sym (ap (λ (r : Replayed). r.result) e), untouched ∙ sym (ap (λ (r : Replayed). r.output) e))
 
-pub returns-in-Broken : goal.returns-in-Broken
-returns-in-Broken c =
+pub returns-in-Err : goal.returns-in-Err
+returns-in-Err c =
     let none : length c.pass-first.new.out ≡ 0 = omega arith in
     let untouched = none_in_front c.pass-first.new.out c.args.out.now none in
-    let e = is_broken c.args.recording.now c.args.out.now c.args.begun c.requires c.in-Broken.refusal (sym c.pass-first.ensures.0 ∙ c.in-Broken.is) in
+    let e = is_broken c.args.recording.now c.args.out.now c.args.begun c.requires c.in-Err.refusal (sym c.pass-first.ensures.0 ∙ c.in-Err.is) in
     (c.refused.ensures ∙ sym (ap (λ (r : Replayed). r.result) e), untouched ∙ sym (ap (λ (r : Replayed). r.output) e))
 
 pub returns-else-out-needed : goal.returns-else-out-needed
 returns-else-out-needed c =
     let none : length c.pass-first.new.out ≡ 0 = omega arith in
     let untouched = none_in_front c.pass-first.new.out c.args.out.now none in
-    all_there c.args.recording.now c.args.out.now c.args.begun c.requires c.in-Passed.found (sym c.pass-first.ensures.0 ∙ c.in-Passed.is)
+    all_there c.args.recording.now c.args.out.now c.args.begun c.requires c.in-Ok.found (sym c.pass-first.ensures.0 ∙ c.in-Ok.is)
     (omega (arith, c.if-out-needed.false, ap length untouched)) (subst (λ (l : List ℕ). LinesPut (throughout c.args.recording.now c.args.begun) l c.pass.new.out) untouched c.pass.ensures.1)

@@ -4,4 +4,4 @@ use Rattle.speller.specs.TextRead.{same_place}
 use Rattle.speller.proofs.same_place.Goals as goal
 
 pub returns : goal.returns
-returns c = sym (ap₂ same_place c.in-At.is c.in-At-b-2.is)
+returns c = sym (ap₂ same_place c.in-Some.is c.in-Some-b-2.is)

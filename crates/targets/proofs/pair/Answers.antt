@@ -1,7 +1,6 @@
 -- `targets::pair` meets its contract, by what is left of the letters.
-use Rattle.std.proofs.Common.{sym, ap, ◌∙◌, false, map, List, ℕ}
+use Rattle.std.proofs.Common.{sym, ap, ◌∙◌, false, map, List, ℕ, Some}
 use Rattle.rules.specs.TheWord.{letter}
-use Rattle.rules.specs.declared.Place.TheVariants.{At}
 use Rattle.targets.specs.Places.{pair_place}
 use Rattle.targets.proofs.Turns.{from_zero, pair_on, pair_here, pair_end}
 use Rattle.targets.proofs.pair.Goals as goal
@@ -13,7 +12,7 @@ pub returns-then-is_pair : goal.returns-then-is_pair
 returns-then-is_pair c =
     let s = c.in-Some.ensures.steps in
     let k = c.loop-i in
-    ap At s.1 ∙ pair_here k.i-iterator.iter.parts.rest.now k.i-iterator.count _ k.after_q k.invariant.0 c.in-Some.field-0-1.now s.0.1.0 s.0.1.1 (sym c.is_pair.ensures ∙ c.if-is_pair.true) ∙ k.invariant.1
+    ap Some s.1 ∙ pair_here k.i-iterator.iter.parts.rest.now k.i-iterator.count _ k.after_q k.invariant.0 c.in-Some.field-0-1.now s.0.1.0 s.0.1.1 (sym c.is_pair.ensures ∙ c.if-is_pair.true) ∙ k.invariant.1
 
 pub loop-i-preserved : goal.loop-i-preserved
 loop-i-preserved c =

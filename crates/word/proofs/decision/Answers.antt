@@ -1,4 +1,5 @@
 -- `word::decision` meets its contract: refused, or decided on the word's letters, verdict and counts.
+use Rattle.std.specs.Prelude.{Ok}
 use mathlib.Core.Path.{◌≡◌, sym, ap, ◌∙◌}
 use mathlib.Core.Bool.{◌&&◌}
 use native.Mathlib.Omega.{arith}
@@ -6,7 +7,6 @@ use lib.Dec.{eqb}
 use lib.ListN.{length}
 use borrow.Author.Rules.{rules}
 use Rattle.rules.proofs.Range.{few_letters}
-use Rattle.rules.specs.declared.DecisionAnswer.TheVariants.{Decided}
 use Rattle.word.specs.Deciding.{decided_by}
 use Rattle.word.proofs.Answers.{decision_refused, part, decided}
 use Rattle.word.proofs.decision.Goals as goal
@@ -23,5 +23,5 @@ slice_bounds-word-end c =
 pub returns : goal.returns
 returns c =
     let w = c.args.w in
-    ap Decided (c.decided.ensures ∙ ap (decided_by (eqb w.acted 0 && eqb w.undone 0) w.closed (part w.letters w.count)) c.verdict.ensures) ∙
+    ap Ok (c.decided.ensures ∙ ap (decided_by (eqb w.acted 0 && eqb w.undone 0) w.closed (part w.letters w.count)) c.verdict.ensures) ∙
     sym (decided w (sym c.out_of_range.ensures ∙ c.if-out_of_range.false))

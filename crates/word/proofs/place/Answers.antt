@@ -1,9 +1,9 @@
 -- `word::place` meets its contract: refused, or answered over the front part.
+use Rattle.std.specs.Prelude.{Ok}
 use mathlib.Core.Path.{◌≡◌, sym, ap, ◌∙◌}
 use native.Mathlib.Omega.{arith}
 use lib.ListN.{length}
 use borrow.Author.Rules.{rules}
-use Rattle.rules.specs.declared.PlaceAnswer.TheVariants.{Found}
 use Rattle.rules.proofs.Range.{few_letters}
 use Rattle.word.proofs.Answers.{place_refused, place_found}
 use Rattle.word.proofs.place.Goals as goal
@@ -18,4 +18,4 @@ slice_bounds-tone_place-end c =
     omega (arith, few_letters w (sym c.out_of_range.ensures ∙ c.if-out_of_range.false))
 
 pub returns : goal.returns
-returns c = ap Found c.tone_place.ensures ∙ sym (place_found c.args.w (sym c.out_of_range.ensures ∙ c.if-out_of_range.false))
+returns c = ap Ok c.tone_place.ensures ∙ sym (place_found c.args.w (sym c.out_of_range.ensures ∙ c.if-out_of_range.false))

@@ -1,4 +1,5 @@
 -- `word::start` meets its contract: each mode has its new word, and any other is refused.
+use Rattle.std.specs.Prelude.{Ok}
 use mathlib.Core.Path.{ap, sym, ◌∙◌}
 use borrow.Author.Rules.{rules}
 use borrow.Author.Tests.{ne_eqb}
@@ -6,7 +7,6 @@ use Rattle.rules.specs.Letters.{telex, vni}
 use Rattle.rules.specs.Refusals.{refusal}
 use Rattle.rules.specs.WhatComesBack.{start}
 use Rattle.rules.specs.declared.Word.{Word}
-use Rattle.rules.specs.declared.StartAnswer.TheVariants.{Started}
 use Rattle.word.proofs.start.Goals as goal
 
 pub telex-requires : goal.telex-requires
@@ -15,7 +15,7 @@ telex-requires c = search rules
 
 pub returns-then-mode-eq-TELEX : goal.returns-then-mode-eq-TELEX
 unfolding refusal
-returns-then-mode-eq-TELEX c = ap (λ (w : Word). record { answer = Started; word = w }) c.telex.ensures ∙ ap start (sym c.if-mode-eq-TELEX.true)
+returns-then-mode-eq-TELEX c = ap (λ (w : Word). record { answer = Ok tt; word = w }) c.telex.ensures ∙ ap start (sym c.if-mode-eq-TELEX.true)
 
 pub vni-requires : goal.vni-requires
 unfolding refusal
@@ -23,7 +23,7 @@ vni-requires c = search rules
 
 pub returns-then-mode-eq-VNI : goal.returns-then-mode-eq-VNI
 unfolding refusal
-returns-then-mode-eq-VNI c = ap (λ (w : Word). record { answer = Started; word = w }) c.vni.ensures ∙ ap start (sym c.if-mode-eq-VNI.true)
+returns-then-mode-eq-VNI c = ap (λ (w : Word). record { answer = Ok tt; word = w }) c.vni.ensures ∙ ap start (sym c.if-mode-eq-VNI.true)
 
 pub telex-requires-2 : goal.telex-requires-2
 unfolding refusal

@@ -1,10 +1,10 @@
 -- `word::type_all` meets its contract: each answer is the row of its test, or the keys typed.
+use Rattle.std.specs.Prelude.{Ok}
 use mathlib.Core.Path.{sym, ap, subst, ◌∙◌}
 use mathlib.Core.Bool.{not}
 use lib.Dec.{T}
 use borrow.Author.Tests.{not-false}
 use Rattle.rules.specs.declared.Word.{Word}
-use Rattle.rules.specs.declared.TypeAnswer.TheVariants.{AllTyped}
 use Rattle.rules.specs.Refusals.{is_mode}
 use Rattle.word.specs.Refusing.{refused_typing}
 use Rattle.word.proofs.Lists.{wrong_at, none_wrong}
@@ -36,5 +36,5 @@ typed_all-requires c =
 pub returns : goal.returns
 returns c =
     let args = c.args in
-    ap (λ (w : Word). record { answer = AllTyped; word = w }) c.typed_all.ensures ∙
+    ap (λ (w : Word). record { answer = Ok tt; word = w }) c.typed_all.ensures ∙
     sym (all_typed args.mode args.keys.now (ap not (sym c.is_mode.ensures ∙ c.if-not-is_mode.false)) c.if-keys-gt-KEYS.false (none_wrong args.mode args.keys.now (sym c.in_default.ensures)))

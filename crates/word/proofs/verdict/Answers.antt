@@ -1,9 +1,9 @@
 -- `word::verdict` meets its contract: refused, or answered over the front part.
+use Rattle.std.specs.Prelude.{Ok}
 use mathlib.Core.Path.{◌≡◌, sym, ap, ◌∙◌}
 use native.Mathlib.Omega.{arith}
 use lib.ListN.{length}
 use borrow.Author.Rules.{rules}
-use Rattle.rules.specs.declared.VerdictAnswer.TheVariants.{Judged}
 use Rattle.rules.proofs.Range.{few_letters}
 use Rattle.word.proofs.Answers.{verdict_refused, verdict_judged}
 use Rattle.word.proofs.verdict.Goals as goal
@@ -18,4 +18,4 @@ slice_bounds-verdict-end c =
     omega (arith, few_letters w (sym c.out_of_range.ensures ∙ c.if-out_of_range.false))
 
 pub returns : goal.returns
-returns c = ap Judged c.verdict.ensures ∙ sym (verdict_judged c.args.w (sym c.out_of_range.ensures ∙ c.if-out_of_range.false))
+returns c = ap Ok c.verdict.ensures ∙ sym (verdict_judged c.args.w (sym c.out_of_range.ensures ∙ c.if-out_of_range.false))

@@ -5,4 +5,4 @@ use Rattle.playing.proofs.Play.commit.Goals as goal
 pub slice_bounds-put_committed-end : goal.slice_bounds-put_committed-end
 slice_bounds-put_committed-end c =
     let word = c.commit_word-answer in
-    line_within _ _ _ _ word.result _ c.in-Committed.is word.ensures.0 word.ensures.1
+    line_within _ _ _ _ word.result _ c.in-Ok.is word.ensures.0 word.ensures.1

@@ -15,16 +15,16 @@ pub returns-then-horns_o_alone : goal.returns-then-horns_o_alone
 returns-then-horns_o_alone c = as_found horn (horn_alone c.args.letters.now c.args.count c.requires (sym c.horns_o_alone.ensures ∙ c.if-horns_o_alone.true)) c.at.ensures
 
 pub both-requires : goal.both-requires
-both-requires c = pair_aimed c.args.letters.now c.args.count c.requires (sym c.pair-pair.ensures ∙ c.in-At.is)
+both-requires c = pair_aimed c.args.letters.now c.args.count c.requires (sym c.pair-pair.ensures ∙ c.in-Some.is)
 
-pub returns-in-At : goal.returns-in-At
-returns-in-At c = as_found horn (horn_pair c.args.letters.now c.args.count (sym c.horns_o_alone.ensures ∙ c.if-horns_o_alone.false) (sym c.pair-pair.ensures ∙ c.in-At.is)) c.both.ensures
+pub returns-in-Some : goal.returns-in-Some
+returns-in-Some c = as_found horn (horn_pair c.args.letters.now c.args.count (sym c.horns_o_alone.ensures ∙ c.if-horns_o_alone.false) (sym c.pair-pair.ensures ∙ c.in-Some.is)) c.both.ensures
 
 pub returns-in_default-single : goal.returns-in_default-single
 returns-in_default-single c = as_found horn (horn_single c.args.letters.now c.args.count (sym c.horns_o_alone.ensures ∙ c.if-horns_o_alone.false) (sym c.pair-pair.ensures ∙ c.in_default.is) (sym c.single-single.ensures ∙ c.in_default-single.is)) (record { told = refl; left = refl })
 
 pub at-requires-2 : goal.at-requires-2
-at-requires-2 c = single_aimed c.args.letters.now c.args.count c.requires (sym c.single-single.ensures ∙ c.in-At-single.is)
+at-requires-2 c = single_aimed c.args.letters.now c.args.count c.requires (sym c.single-single.ensures ∙ c.in-Some-single.is)
 
 pub returns : goal.returns
-returns c = as_found horn (horn_single c.args.letters.now c.args.count (sym c.horns_o_alone.ensures ∙ c.if-horns_o_alone.false) (sym c.pair-pair.ensures ∙ c.in_default.is) (sym c.single-single.ensures ∙ c.in-At-single.is)) c.at-2.ensures
+returns c = as_found horn (horn_single c.args.letters.now c.args.count (sym c.horns_o_alone.ensures ∙ c.if-horns_o_alone.false) (sym c.pair-pair.ensures ∙ c.in_default.is) (sym c.single-single.ensures ∙ c.in-Some-single.is)) c.at-2.ensures

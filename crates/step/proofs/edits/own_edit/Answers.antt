@@ -10,7 +10,7 @@ pub returns-in_default : goal.returns-in_default
 returns-in_default c = as_found circumflex (last_at (own c.args.own) c.args.letters.now c.args.count circumflex (sym c.last_own-place.ensures ∙ c.in_default.is)) (record { told = refl; left = refl })
 
 pub at-requires : goal.at-requires
-at-requires c = last_aimed (own c.args.own) c.args.letters.now c.args.count circumflex c.requires (lit< tt) (sym c.last_own-place.ensures ∙ c.in-At.is)
+at-requires c = last_aimed (own c.args.own) c.args.letters.now c.args.count circumflex c.requires (lit< tt) (sym c.last_own-place.ensures ∙ c.in-Some.is)
 
 pub returns : goal.returns
-returns c = as_found circumflex (last_at (own c.args.own) c.args.letters.now c.args.count circumflex (sym c.last_own-place.ensures ∙ c.in-At.is)) c.at.ensures
+returns c = as_found circumflex (last_at (own c.args.own) c.args.letters.now c.args.count circumflex (sym c.last_own-place.ensures ∙ c.in-Some.is)) c.at.ensures

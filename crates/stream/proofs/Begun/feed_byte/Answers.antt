@@ -18,11 +18,11 @@ returns-in_default c =
 pub overflow_add-result : goal.overflow_add-result
 overflow_add-result c =
     let e = c.answer_line-answer.ensures in
-    let room = fits_there c.args.self.now c.args.b c.args.out.now c.args.at c.requires c.if-b-ne10.false _ c.args.out.now c.held.ensures _ (sym e.0 ∙ c.in-Wrote.is) in
+    let room = fits_there c.args.self.now c.args.b c.args.out.now c.args.at c.requires c.if-b-ne10.false _ c.args.out.now c.held.ensures _ (sym e.0 ∙ c.in-Ok.is) in
     search rules
 
 pub returns : goal.returns
 returns c =
     let e = c.answer_line-answer.ensures in
-    let q = is_answered c.args.self.now c.args.b c.args.out.now c.args.at c.requires c.if-b-ne10.false _ _ c.held.ensures _ (sym e.0 ∙ c.in-Wrote.is) e.1 in
+    let q = is_answered c.args.self.now c.args.b c.args.out.now c.args.at c.requires c.if-b-ne10.false _ _ c.held.ensures _ (sym e.0 ∙ c.in-Ok.is) e.1 in
     (q.place, q.state, q.output)

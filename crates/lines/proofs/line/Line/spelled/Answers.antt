@@ -10,29 +10,29 @@ use Rattle.lines.proofs.line.Line.spelled.Goals as goal
 pub refused-requires : goal.refused-requires
 refused-requires c =
     let room : most_in_line ≤ length c.args.self.now.text = omega arith in
-    let q = refuses c.args.mode c.args.syllable.now c.args.self.now.text room c.spell-answer.result _ c.spell-answer.ensures.0 c.spell-answer.ensures.1 _ c.in-Refused.is in
+    let q = refuses c.args.mode c.args.syllable.now c.args.self.now.text room c.spell-answer.result _ c.spell-answer.ensures.0 c.spell-answer.ensures.1 _ c.in-Err.is in
     (c.requires, text_small c.args.mode c.args.syllable.now _ q.why)
 
-pub invariant_of-self-in-Wrote : goal.invariant_of-self-in-Wrote
-invariant_of-self-in-Wrote c =
+pub invariant_of-self-in-Ok : goal.invariant_of-self-in-Ok
+invariant_of-self-in-Ok c =
     let room : most_in_line ≤ length c.args.self.now.text = omega arith in
-    let q = spelled c.args.mode c.args.syllable.now c.args.self.now.text room c.spell-answer.result _ c.spell-answer.ensures.0 c.spell-answer.ensures.1 _ c.in-Wrote.is in
+    let q = spelled c.args.mode c.args.syllable.now c.args.self.now.text room c.spell-answer.result _ c.spell-answer.ensures.0 c.spell-answer.ensures.1 _ c.in-Ok.is in
     record { within = omega (arith, q.few) }
 
 pub append-requires : goal.append-requires
 append-requires c =
     let room : most_in_line ≤ length c.args.self.now.text = omega arith in
-    let q = spelled c.args.mode c.args.syllable.now c.args.self.now.text room c.spell-answer.result _ c.spell-answer.ensures.0 c.spell-answer.ensures.1 _ c.in-Wrote.is in
+    let q = spelled c.args.mode c.args.syllable.now c.args.self.now.text room c.spell-answer.result _ c.spell-answer.ensures.0 c.spell-answer.ensures.1 _ c.in-Ok.is in
     omega (arith, q.few)
 
-pub returns-in-Refused : goal.returns-in-Refused
-returns-in-Refused c =
+pub returns-in-Err : goal.returns-in-Err
+returns-in-Err c =
     let room : most_in_line ≤ length c.args.self.now.text = omega arith in
-    let q = refuses c.args.mode c.args.syllable.now c.args.self.now.text room c.spell-answer.result _ c.spell-answer.ensures.0 c.spell-answer.ensures.1 _ c.in-Refused.is in
+    let q = refuses c.args.mode c.args.syllable.now c.args.self.now.text room c.spell-answer.result _ c.spell-answer.ensures.0 c.spell-answer.ensures.1 _ c.in-Err.is in
     from_start c.requires c.requires (as_part q.line c.refused.ensures)
 
-pub returns-in-Wrote : goal.returns-in-Wrote
-returns-in-Wrote c =
+pub returns-in-Ok : goal.returns-in-Ok
+returns-in-Ok c =
     let room : most_in_line ≤ length c.args.self.now.text = omega arith in
-    let q = spelled c.args.mode c.args.syllable.now c.args.self.now.text room c.spell-answer.result _ c.spell-answer.ensures.0 c.spell-answer.ensures.1 _ c.in-Wrote.is in
+    let q = spelled c.args.mode c.args.syllable.now c.args.self.now.text room c.spell-answer.result _ c.spell-answer.ensures.0 c.spell-answer.ensures.1 _ c.in-Ok.is in
     keys_put _ _ c.requires q.line (omega (arith, q.inside)) c.append.ensures.moved c.append.ensures.front

@@ -2,7 +2,7 @@
 #![tactic(auto)]
 
 ghost use Rattle.std.specs.Prelude.{◌≡◌, ◌+◌, ◌*◌, ◌/◌, ◌%◌, length};
-ghost use Rattle.layout.specs.Places.{pairs, numbers, is_long, no_record as no_record_of, as_record, record_written, letters_put};
+ghost use Rattle.layout.specs.Places.{pairs, numbers, is_long, as_record, held, record_written, letters_put};
 
 use rules::Word;
 
@@ -36,22 +36,6 @@ pub const AT_TONED_BY: usize = 168;
 
 pub const LENGTH: usize = 169;
 
-// What bytes are: a record or none, and the word then; a new Telex word where they are none.
-#[derive(Drop)]
-pub struct RecordRead {
-    pub is_record: bool,
-    pub word: Word,
-}
-
-fn no_record() -> RecordRead
-    ensures { result ≡ no_record_of }
-{
-    RecordRead {
-        is_record: false,
-        word: Word::telex(),
-    }
-}
-
 // The letters' numbers, two bytes each.
 fn letters_in(pairs: &[u8]) -> [u16; Word::KEYS]
     requires { length pairs.now ≡ 64 }
@@ -79,16 +63,16 @@ fn put_pairs(letters: &[u16], out: &mut [u8])
     }
 }
 
-// The record that bytes are. None, with a new Telex word, where they are not 169 or the mark is neither 0 nor 1.
-pub fn read(buffer: &[u8]) -> RecordRead
+// The record that bytes are. None where they are not 169 or the mark is neither 0 nor 1.
+pub fn read(buffer: &[u8]) -> Option<Word>
     ensures { result ≡ as_record buffer.now }
 {
     if buffer.len() != LENGTH {
-        return no_record();
+        return None;
     }
     let mark = buffer[AT_CLOSED];
     if 1 < mark {
-        return no_record();
+        return None;
     }
     let mut keys = [0; Word::KEYS];
     keys.copy_from_slice(&buffer[AT_KEYS..AT_LETTERS]);
@@ -97,24 +81,21 @@ pub fn read(buffer: &[u8]) -> RecordRead
     appended_by.copy_from_slice(&buffer[AT_APPENDED_BY..AT_SHAPED_BY]);
     let mut shaped_by = [0; Word::KEYS];
     shaped_by.copy_from_slice(&buffer[AT_SHAPED_BY..AT_TONED_BY]);
-    RecordRead {
-        is_record: true,
-        word: Word {
-            mode: buffer[AT_MODE],
-            letters: letters,
-            appended_by: appended_by,
-            shaped_by: shaped_by,
-            count: buffer[AT_COUNT],
-            tone: buffer[AT_TONE],
-            toned_by: buffer[AT_TONED_BY],
-            closed: mark == 1,
-            keys: keys,
-            typed: buffer[AT_TYPED],
-            acted: buffer[AT_ACTED],
-            undone: buffer[AT_UNDONE],
-            appended: buffer[AT_APPENDED],
-        },
-    }
+    Some(Word {
+        mode: buffer[AT_MODE],
+        letters,
+        appended_by,
+        shaped_by,
+        count: buffer[AT_COUNT],
+        tone: buffer[AT_TONE],
+        toned_by: buffer[AT_TONED_BY],
+        closed: mark == 1,
+        keys,
+        typed: buffer[AT_TYPED],
+        acted: buffer[AT_ACTED],
+        undone: buffer[AT_UNDONE],
+        appended: buffer[AT_APPENDED],
+    })
 }
 
 // The record's bytes. False, and nothing written, where there is not room for exactly 169.
@@ -147,7 +128,7 @@ pub fn write(w: Word, buffer: &mut [u8]) -> bool
 // The letters of the record that bytes are: those of a new word where they are none. Where no more is wanted of a record, all else need not
 // be read.
 pub fn letters_of(buffer: &[u8]) -> [u16; Word::KEYS]
-    ensures { result ≡ (as_record buffer.now).word.letters }
+    ensures { result ≡ (held buffer.now).letters }
 {
     if buffer.len() != LENGTH {
         return [0; Word::KEYS];

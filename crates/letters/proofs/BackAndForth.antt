@@ -84,12 +84,12 @@ only_letters text at n t l e = go (shown (drop at text)) e
     go (absent h) d = let z : ◌≡◌ {A = ℕ} 0 1 = cc in absurd (omega arith)
     go (present {s = s} k u) d =
         let same = same_Some {A = LetterRead} (record { number = number s.letter; tone = s.tone; length = length (utf8 (point s)) }) (record { number = n; tone = t; length = l }) d in
-        let e : length (utf8 (point s)) ≡ l = ap (λ (x : Option LetterRead). x.length) same in
+        let e : length (utf8 (point s)) ≡ l = ap (λ (x : LetterRead). x.length) same in
         record {
           shown_as = s;
           known = k;
-          number_is = ap (λ (x : Option LetterRead). x.number) same;
-          tone_is = ap (λ (x : Option LetterRead). x.tone) same;
+          number_is = ap (λ (x : LetterRead). x.number) same;
+          tone_is = ap (λ (x : LetterRead). x.tone) same;
           length_is = e;
           stands = subst (λ (m : ℕ). utf8 (point s) ++ drop m (drop at text) ≡ drop at text) e (starts_is (utf8 (point s)) (drop at text) u);
         }

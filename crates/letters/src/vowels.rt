@@ -117,40 +117,40 @@ pub(crate) fn point(row: usize, tone: usize) -> u16
 }
 
 // The letter of a code point above ASCII: đ, or one of the table, small or as a capital.
-pub(crate) fn find(point: u16, length: usize) -> LetterRead
+pub(crate) fn find(point: u16, length: usize) -> Option<LetterRead>
     ensures { result ≡ read_as length (found point) }
 {
     if point == D_STROKE_POINT {
-        return LetterRead::Letter {
+        return Some(LetterRead {
             number: D_STROKE,
             tone: NO_TONE,
-            length: length,
-        };
+            length,
+        });
     }
     if point == CAPITAL_D_STROKE_POINT {
-        return LetterRead::Letter {
+        return Some(LetterRead {
             number: D_STROKE + CAPITAL,
             tone: NO_TONE,
-            length: length,
-        };
+            length,
+        });
     }
     for (row, points) in POINTS.iter().enumerate() {
         for (tone, small) in points.iter().enumerate() {
             if *small == point {
-                return LetterRead::Letter {
+                return Some(LetterRead {
                     number: letter(row),
                     tone: tone as u8,
                     length,
-                };
+                });
             }
             if capital_point(*small) == point {
-                return LetterRead::Letter {
+                return Some(LetterRead {
                     number: letter(row) + CAPITAL,
                     tone: tone as u8,
                     length,
-                };
+                });
             }
         }
     }
-    LetterRead::NoLetter
+    None
 }

@@ -82,9 +82,9 @@ module _ (s : List ℕ) (tone : ℕ) (r : Parts) (e : r ≡ parts_of (map letter
   abbrev within : ℕ
   within = place_within (nucleus w) (is_nil (final w) && is_nil (leftovers w))
 
-  module _ (Some : (tone ≡ 0) → ⊥) where
+  module _ (toned : (tone ≡ 0) → ⊥) where
     unless_is : (b : Bool) → eqb r.initial r.nucleus ≡ b → b ≡ (eqb tone 0 || is_nil (nucleus w))
-    unless_is b t = sym t ∙ (cut s r e).none ∙ ap (λ (c : Bool). c || is_nil (nucleus w)) (sym (ne_eqb tone 0 Some))
+    unless_is b t = sym t ∙ (cut s r e).none ∙ ap (λ (c : Bool). c || is_nil (nucleus w)) (sym (ne_eqb tone 0 toned))
 
     pub no_nucleus : r.initial ≡ r.nucleus → None ≡ tone_place w tone
     unfolding tone_place

@@ -10,14 +10,14 @@ use Rattle.std.specs.Prelude.{Option, Some, None}
 use Rattle.rules.specs.TheWord.{letter}
 use Rattle.rules.specs.KeyRoles.{is_q, is_pair}
 use Rattle.rules.proofs.Searches.{IsLastPlace}
-use Rattle.targets.specs.Places.{place_of, next, or_this, last_place, pair_place}
+use Rattle.targets.specs.Places.{next, or_this, last_place, pair_place}
 
 -- the search from the end, by what `rposition` finds
 module _ (want : ℕ → Bool) where
   abbrev pub wants_letter : ℕ → Bool
   wants_letter n = want (letter n).base
 
-  pub last_found : (s : List ℕ) (r : Option ℕ) → IsLastPlace wants_letter s r → place_of r ≡ last_place want (map letter s)
+  pub last_found : (s : List ℕ) (r : Option ℕ) → IsLastPlace wants_letter s r → r ≡ last_place want (map letter s)
   last_found [] (Some i) h = absurd (omega (arith, h.0))
   last_found [] None h = refl
   last_found (x ∷ xs) None h = ap₂ or_this (last_found xs None (λ k l. h (suc k) (omega arith))) (sym (h 0 (omega arith)))

@@ -13,11 +13,6 @@ wanted Breve x = is_a x
 wanted Horn x = false
 wanted HornBreve x = false
 
--- what a search found, as a place
-abbrev pub place_of : Option ℕ → Place
-place_of (Some i) = At i
-place_of None = Nowhere
-
 -- a place, one letter further on
 abbrev pub next : Option ℕ → Option ℕ
 next (Some n) = Some (suc n)

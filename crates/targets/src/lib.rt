@@ -5,7 +5,7 @@ ghost use Rattle.std.specs.Prelude.{◌≡◌, false, [], ◌∷◌, map};
 ghost use Rattle.rules.specs.Letters.{words, one_of};
 ghost use Rattle.rules.specs.TheWord.{letter};
 ghost use Rattle.rules.specs.KeyRoles.{own as own_of, is_aeo as is_aeo_of, is_q as is_q_of, is_pair as is_pair_of, is_single as is_single_of, horns_o_alone as horns_o_alone_of, awaits_second_horn as awaits_second_horn_of};
-ghost use Rattle.targets.specs.Places.{wanted, place_of, last_place, pair_place, single_place};
+ghost use Rattle.targets.specs.Places.{wanted, last_place, pair_place, single_place};
 
 use rules::{CIRCUMFLEX, HORN, PLAIN, ShapeKey};
 
@@ -35,28 +35,20 @@ fn is_own(own: u8, b: u8) -> bool
     (b == own) & is_aeo(own)
 }
 
-// What was found, as a place.
-fn place(found: Option<usize>) -> Option<usize>
-    ensures { result ≡ place_of found }
-{
-    match found {
-        Some(i) => Some(i),
-        None => None,
-    }
-}
-
 // The last letter with a wanted base.
 pub fn last_wanted(letters: &[u16], key: ShapeKey) -> Option<usize>
     ensures { result ≡ last_place (wanted key) (map letter letters.now) }
 {
-    place(letters.iter().rposition(|n| wants(key, *n)))
+    letters.iter().rposition(|n| wants(key, *n))
 }
 
 // The last letter that a Telex circumflex key wants, its own: the same without asking at each letter which key it is.
 pub fn last_own(letters: &[u16], own: u8) -> Option<usize>
     ensures { result ≡ last_place (own_of own) (map letter letters.now) }
 {
-    place(letters.iter().rposition(|n| is_own(own, rules::base(*n))))
+    letters
+        .iter()
+        .rposition(|n| is_own(own, rules::base(*n)))
 }
 
 fn is_q(n: u16) -> bool

@@ -9,4 +9,4 @@ use Rattle.targets.proofs.last_own.Goals as goal
 pub returns : goal.returns
 returns c =
     let last : IsLastPlace (wants_letter (own c.args.own)) c.args.letters.now c.rposition.result = search (rules, chains) in
-    c.place.ensures ∙ last_found (own c.args.own) c.args.letters.now c.rposition.result last
+    last_found (own c.args.own) c.args.letters.now c.rposition.result last

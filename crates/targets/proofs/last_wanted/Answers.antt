@@ -9,4 +9,4 @@ use Rattle.targets.proofs.last_wanted.Goals as goal
 pub returns : goal.returns
 returns c =
     let last : IsLastPlace (wants_letter (wanted c.args.key)) c.args.letters.now c.rposition.result = search (rules, chains) in
-    c.place.ensures ∙ last_found (wanted c.args.key) c.args.letters.now c.rposition.result last
+    last_found (wanted c.args.key) c.args.letters.now c.rposition.result last

@@ -19,7 +19,7 @@ const LIMIT: u64 = 4294967296;
 
 // How far a drill has come: its mode, how many keys the word that has begun has, and the milliseconds so far.
 // Every field is public, so any numbers can be handed in: 32 keys and more are a full word, and a mode that does not exist allows letters only.
-#[derive(Clone, Copy)]
+#[derive(Clone, Copy, Debug, PartialEq, Eq)]
 pub struct Progress {
     pub mode: u8,
     pub in_word: usize,
@@ -27,22 +27,14 @@ pub struct Progress {
 }
 
 // A key, and the milliseconds since the last one.
-#[derive(Clone, Copy)]
+#[derive(Clone, Copy, Debug, PartialEq, Eq)]
 pub struct KeyPress {
     pub milliseconds: u32,
     pub key: u8,
 }
 
-// What a step meets: a key that was pressed, the end of the recording, or a refusal with its place.
-#[derive(Clone, Copy)]
-pub enum Press {
-    Pressed(KeyPress),
-    End,
-    Refused(Refusal),
-}
-
-// After a step: what it met, the place of the next one, and how far the drill has come.
-#[derive(Clone, Copy)]
+// After a step: what it met (a key that was pressed, none at the end of the recording, or a refusal with its place), the place of the next one, and how far the drill has come.
+#[derive(Clone, Copy, Debug, PartialEq, Eq)]
 pub struct Stepped {
     pub press: Result<Option<KeyPress>, Refusal>,
     pub at: usize,
@@ -50,16 +42,10 @@ pub struct Stepped {
 }
 
 // Behind the mode: the place of the first step, and a drill that has only begun.
-#[derive(Clone, Copy)]
+#[derive(Clone, Copy, Debug, PartialEq, Eq)]
 pub struct Begun {
     pub at: usize,
     pub progress: Progress,
-}
-
-#[derive(Clone, Copy)]
-pub enum BeginAnswer {
-    Begins(Begun),
-    Refused(Refusal),
 }
 
 // A press as the writer is handed it, one number, taken apart. Its time may be longer than a `KeyPress` can hold, and is refused only after the key.
@@ -67,13 +53,6 @@ pub enum BeginAnswer {
 struct Given {
     milliseconds: u64,
     key: u8,
-}
-
-// A press that may follow, or the first of its refusals.
-#[derive(Clone, Copy)]
-enum Checked {
-    Fine,
-    Faulty(Refusal),
 }
 
 // The mode in front of a recording. Refusals: 10, 1, at place 0.
@@ -145,7 +124,7 @@ fn faulty(number: u8, place: usize) -> Result<(), Refusal>
     ensures { result ≡ Err (refused_for number place) }
 {
     Err(Refusal {
-        number: number,
+        number,
         value: place,
     })
 }
@@ -186,8 +165,8 @@ fn staying(x: Result<Option<KeyPress>, Refusal>, at: usize, progress: Progress) 
 {
     Stepped {
         press: x,
-        at: at,
-        progress: progress,
+        at,
+        progress,
     }
 }
 
@@ -215,8 +194,7 @@ pub fn step_at(recording: &[u8], at: usize, progress: Progress) -> Stepped
     let Some(key) = groups::number_at(recording, key_at) else {
         return cut_short(key_at, at, progress);
     };
-    let answer = check(progress, time.value as u64, key.value, key_at, at);
-    if let Err(r) = answer {
+    if let Err(r) = check(progress, time.value as u64, key.value, key_at, at) {
         return staying(Err(r), at, progress);
     }
     let x = KeyPress {
@@ -237,10 +215,7 @@ fn first_fault(mode: u8, presses: &[u64]) -> Result<(), Refusal>
     let mut progress = Progress::new(mode);
     for (i, &n) in presses.iter().enumerate() {
         let given = Given::new(n);
-        let answer = check(progress, given.milliseconds, given.key as u32, i, i);
-        if let Err(r) = answer {
-            return Err(r);
-        }
+        check(progress, given.milliseconds, given.key as u32, i, i)?;
         progress = progress.onward(KeyPress {
             milliseconds: given.milliseconds as u32,
             key: given.key,
@@ -304,10 +279,7 @@ pub fn write(mode: u8, presses: &[u64], out: &mut [u8]) -> Result<usize, Refusal
             value: 0,
         });
     }
-    let fault = first_fault(mode, presses);
-    if let Err(r) = fault {
-        return Err(r);
-    }
+    first_fault(mode, presses)?;
     let needed = bytes_needed(mode, presses);
     if out.len() < needed {
         return Err(Refusal {

@@ -32,12 +32,12 @@ returns-in_default-number_at c =
 pub returns-in-Err : goal.returns-in-Err
 returns-in-Err c =
     let a = c.args in
-    c.staying-in-Err.ensures ∙ faulty_press a.recording.now a.at a.progress c.in-Some.time c.if-recording-at.false (sym c.in-Some.is ∙ c.number_at.ensures) c.in-Some-number_at.key (sym c.in-Some-number_at.is ∙ c.number_at-2.ensures) _ (sym c.check-answer.ensures ∙ c.in-Err.is)
+    c.staying-in-Err.ensures ∙ faulty_press a.recording.now a.at a.progress c.in-Some.time c.if-recording-at.false (sym c.in-Some.is ∙ c.number_at.ensures) c.in-Some-number_at.key (sym c.in-Some-number_at.is ∙ c.number_at-2.ensures) _ (sym c.check.ensures ∙ c.in-Err.is)
 
 pub overflow_cast-x : goal.overflow_cast-x
 overflow_cast-x c =
     let a = c.args in
-    record { fits = is_byte a.progress c.in-Some-number_at.key.value (is_fine a.progress (press c.in-Some.time.value c.in-Some-number_at.key.value) _ _ (sym c.check-answer.ensures ∙ c.in_default-answer.is)).allowed }
+    record { fits = is_byte a.progress c.in-Some-number_at.key.value (is_fine a.progress (press c.in-Some.time.value c.in-Some-number_at.key.value) _ _ (sym c.check.ensures ∙ c.in_default-check.is)).allowed }
 
 pub overflow_add-result : goal.overflow_add-result
 overflow_add-result c =
@@ -48,10 +48,10 @@ overflow_add-result c =
 pub onward-requires : goal.onward-requires
 onward-requires c =
     let a = c.args in
-    fine_anywhere a.progress (press c.in-Some.time.value c.in-Some-number_at.key.value) _ _ 0 0 (sym c.check-answer.ensures ∙ c.in_default-answer.is)
+    fine_anywhere a.progress (press c.in-Some.time.value c.in-Some-number_at.key.value) _ _ 0 0 (sym c.check.ensures ∙ c.in_default-check.is)
 
 pub returns : goal.returns
 returns c =
     let a = c.args in
     ap (λ (p : Progress). let t : Stepped = record { press = Ok (Some (press c.in-Some.time.value c.in-Some-number_at.key.value)); at = a.at + c.in-Some.time.groups + c.in-Some-number_at.key.groups; progress = p } in t) c.onward.ensures ∙
-    fine_press a.recording.now a.at a.progress c.in-Some.time c.if-recording-at.false (sym c.in-Some.is ∙ c.number_at.ensures) c.in-Some-number_at.key (sym c.in-Some-number_at.is ∙ c.number_at-2.ensures) (sym c.check-answer.ensures ∙ c.in_default-answer.is)
+    fine_press a.recording.now a.at a.progress c.in-Some.time c.if-recording-at.false (sym c.in-Some.is ∙ c.number_at.ensures) c.in-Some-number_at.key (sym c.in-Some-number_at.is ∙ c.number_at-2.ensures) (sym c.check.ensures ∙ c.in_default-check.is)

@@ -5,7 +5,8 @@ ghost use Rattle.std.specs.Prelude.{◌≡◌};
 ghost use Rattle.recording.specs.Recordings.{begin as begin_of};
 ghost use Rattle.reader.specs.Standing.{step_from, place_after};
 
-use recording::{Progress, Stepped};
+use recording::{Begun, Progress, Stepped};
+use rules::Refusal;
 
 #[derive(Clone, Copy)]
 pub struct Reader<'a> {

@@ -16,12 +16,6 @@ abbrev pub tone_place_in : List Sign → Option ℕ
 tone_place_in [] = None
 tone_place_in (s ∷ ss) = elim (eqb s.tone no_tone) [ true ↦ one_on (tone_place_in ss) | false ↦ Some 0 ]
 
-abbrev pub same_place : Option ℕ → Option ℕ → Bool
-same_place (Some m) (Some n) = eqb m n
-same_place (Some m) None = false
-same_place None (Some n) = false
-same_place None None = true
-
 -- the reading after these letters, so many bytes into the text
 abbrev pub reading_of : ℕ → List Sign → ReadSoFar
 reading_of at ss = record { at = at; count = length ss; tone = tone_in ss; place = tone_place_in ss; twice = two_tones (tones_in ss) }

@@ -9,10 +9,9 @@ ghost use Rattle.rules.specs.TheWord.{most_bytes, letter};
 ghost use Rattle.rules.specs.CodePoints.{Sign};
 ghost use Rattle.rules.specs.Speller.{key_of_letter as key_of_letter_of, shape_key as shape_key_of, tone_key as tone_key_of, awaits_o as awaits_o_of, letters_in, fault as fault_of};
 ghost use Rattle.rules.specs.WhatComesBack.{spell as spell_of};
-ghost use Rattle.speller.specs.TextRead.{reading_of, ReadInto, same_place as same_place_of, refused_write};
+ghost use Rattle.speller.specs.TextRead.{reading_of, ReadInto, refused_write};
 
 use key_list::KeyList;
-use letters::LetterRead;
 use rules::{ACUTE, BREVE, CIRCUMFLEX, DOT, GRAVE, HOOK, HORN, NO_TONE, Refusal, STROKE, TILDE, Word};
 
 // A text as far as it is read: how many bytes and letters; the first tone, the place of the letter that carries it, and whether another letter carries one.
@@ -66,11 +65,11 @@ impl ReadSoFar {
         if verdict != 0 {
             return verdict;
         }
-        let place = self.place;
-        if same_place(place, parts::tone_place(letters, self.tone)) {
-            return 0;
+        if self.place == parts::tone_place(letters, self.tone) {
+            0
+        } else {
+            9
         }
-        9
     }
 }
 
@@ -82,34 +81,13 @@ fn read(text: &[u8], letters: &mut [u16]) -> ReadSoFar
 {
     let mut r = ReadSoFar::new();
     while r.at < text.len() {
-        let front = letters::read(text, r.at);
-        let LetterRead::Letter {
-            number,
-            tone,
-            length,
-        } = front
-        else {
+        let Some(front) = letters::read(text, r.at) else {
             return r;
         };
-        letters[r.count] = number;
-        r.add(tone, length);
+        letters[r.count] = front.number;
+        r.add(front.tone, front.length);
     }
     r
-}
-
-fn same_place(a: Option<usize>, b: Option<usize>) -> bool
-    ensures { result ≡ same_place_of a b }
-{
-    let Some(m) = a else {
-        let Some(_) = b else {
-            return true;
-        };
-        return false;
-    };
-    let Some(n) = b else {
-        return false;
-    };
-    m == n
 }
 
 // A letter in its case.

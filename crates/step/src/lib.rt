@@ -342,10 +342,7 @@ pub fn step(w: Word, key: u8) -> Step
     let mut bytes = [0; layout::LENGTH];
     layout::write(w, &mut bytes);
     let answer = step_at(&mut bytes, key);
-    let reading = layout::read(&bytes);
-    let next = reading.word;
-    Step {
-        answer: answer,
-        word: next,
-    }
+    // What was written is a record, and stays one.
+    let word = layout::read(&bytes).unwrap_or(w);
+    Step { answer, word }
 }

@@ -19,8 +19,7 @@ use Rattle.rules.specs.WhatComesBack.{start, step, typed}
 use Rattle.rules.specs.declared.Word.{Word}
 use Rattle.rules.proofs.StaysInRange.{Whole}
 use Rattle.rules.proofs.Typing.{Held, of_modes, new_held, kept_mode, kept_keys, type_append, list_held, steps}
-use Rattle.layout.specs.Places.{as_bytes, as_record}
-use Rattle.layout.specs.declared.RecordRead.{RecordRead}
+use Rattle.layout.specs.Places.{as_bytes, as_record, held, or_new}
 use Rattle.layout.proofs.InPlace.{long_word}
 use Rattle.layout.proofs.RoundTrips.{written_read}
 use Rattle.step.specs.InPlace.{step_at}
@@ -113,9 +112,9 @@ module _ (m : ℕ) (s : List ℕ) (mode : T (is_mode m)) (few : length s ≤ mos
   one_more_in i h p q =
       q ∙ ap (λ (bs : List ℕ). (step_at bs (get_or s i 0)).bytes) p ∙ leaves (so_far i) (whole_so_far i (omega arith)) (get_or s i 0) ∙ ap as_bytes (one_more i h)
 
-  pub all_typed : (i : ℕ) → length s ≤ i → i ≤ length s → {bs : List ℕ} {r : RecordRead} → bs ≡ as_bytes (so_far i) → r ≡ as_record bs → r.word ≡ holding (new_word m) (typed m s)
+  pub all_typed : (i : ℕ) → length s ≤ i → i ≤ length s → {bs : List ℕ} {r : Option Word} → bs ≡ as_bytes (so_far i) → r ≡ as_record bs → (or_new r) ≡ holding (new_word m) (typed m s)
   all_typed i h k p e =
-      ap (λ (x : RecordRead). x.word) (e ∙ ap as_record p ∙ written_read (so_far i) (whole_so_far i k)) ∙ ap (λ (ks : List ℕ). holding (new_word m) (typed m ks)) (take_all i s h)
+      ap (λ (x : Option Word). (or_new x)) (e ∙ ap as_record p ∙ written_read (so_far i) (whole_so_far i k)) ∙ ap (λ (ks : List ℕ). holding (new_word m) (typed m ks)) (take_all i s h)
 
 -- a word is started in its mode, and holds no key yet
 pub started : (m : ℕ) → T (is_mode m) → (start m).word ≡ holding (new_word m) (typed m [])

@@ -9,6 +9,7 @@ use lib.Dec.{T}
 use lib.ListN.{length, take, get_or}
 use lib.Seq.{take_all, take-suc, length-take-le}
 use lib.Ieee.Fits.{and_i, and_l, and_r}
+use Rattle.std.specs.Option.{unwrap_or}
 use Rattle.std.specs.Prelude.{Option, Some, None, nat_lt, position}
 use Rattle.std.specs.List.{position_or_len}
 use borrow.Author.Tests.{ltb-true, ltb-false}
@@ -112,9 +113,9 @@ module _ (m : ℕ) (s : List ℕ) (mode : T (is_mode m)) (few : length s ≤ mos
   one_more_in i h p q =
       q ∙ ap (λ (bs : List ℕ). (step_at bs (get_or s i 0)).bytes) p ∙ leaves (so_far i) (whole_so_far i (omega arith)) (get_or s i 0) ∙ ap as_bytes (one_more i h)
 
-  pub all_typed : (i : ℕ) → length s ≤ i → i ≤ length s → {bs : List ℕ} {r : Option Word} → bs ≡ as_bytes (so_far i) → r ≡ as_record bs → (or_new r) ≡ holding (new_word m) (typed m s)
-  all_typed i h k p e =
-      ap (λ (x : Option Word). (or_new x)) (e ∙ ap as_record p ∙ written_read (so_far i) (whole_so_far i k)) ∙ ap (λ (ks : List ℕ). holding (new_word m) (typed m ks)) (take_all i s h)
+  pub all_typed : (i : ℕ) → length s ≤ i → i ≤ length s → {bs : List ℕ} {r : Option Word} (w : Word) → bs ≡ as_bytes (so_far i) → r ≡ as_record bs → unwrap_or r w ≡ holding (new_word m) (typed m s)
+  all_typed i h k w p e =
+      ap (λ (x : Option Word). unwrap_or x w) (e ∙ ap as_record p ∙ written_read (so_far i) (whole_so_far i k)) ∙ ap (λ (ks : List ℕ). holding (new_word m) (typed m ks)) (take_all i s h)
 
 -- a word is started in its mode, and holds no key yet
 pub started : (m : ℕ) → T (is_mode m) → (start m).word ≡ holding (new_word m) (typed m [])

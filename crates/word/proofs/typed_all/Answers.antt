@@ -10,8 +10,8 @@ use Rattle.word.proofs.typed_all.Goals as goal
 
 pub loop-key-init : goal.loop-key-init
 loop-key-init c =
-    let own = ap (λ (b : Start). b.word) c.start-begun.ensures ∙ started c.args.mode c.requires.0 in
-    c.write.ensures.1 ∙ written c.start-begun.result.word (replicate 169 0) refl ∙ ap as_bytes own
+    let own = ap (λ (b : Start). b.word) c.start.ensures ∙ started c.args.mode c.requires.0 in
+    c.write.ensures.1 ∙ written c.start.result.word (replicate 169 0) refl ∙ ap as_bytes own
 
 pub slice_bounds-step_at-end : goal.slice_bounds-step_at-end
 slice_bounds-step_at-end c = long_so_far c.args.mode c.args.keys.now c.requires.0 c.requires.1 c.requires.2 c.loop-key.key-index (omega arith) c.loop-key.invariant
@@ -24,4 +24,4 @@ pub slice_bounds-read-end : goal.slice_bounds-read-end
 slice_bounds-read-end c = long_so_far c.args.mode c.args.keys.now c.requires.0 c.requires.1 c.requires.2 c.loop-key.key-index (omega arith) c.loop-key.invariant
 
 pub returns : goal.returns
-returns c = all_typed c.args.mode c.args.keys.now c.requires.0 c.requires.1 c.requires.2 c.loop-key.key-index c.loop-key-test.false (omega arith) c.loop-key.invariant c.read-reading.ensures
+returns c = c.unwrap_or.ensures ∙ all_typed c.args.mode c.args.keys.now c.requires.0 c.requires.1 c.requires.2 c.loop-key.key-index c.loop-key-test.false (omega arith) _ c.loop-key.invariant c.read.ensures

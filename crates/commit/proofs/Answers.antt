@@ -1,5 +1,5 @@
 -- The ruling by its tests, in the order in which the code asks them, and what the code makes of a word in range.
-use Rattle.std.specs.Prelude.{Ok, Err}
+use Rattle.std.specs.Prelude.{Ok, Err, Result, ⊤}
 use mathlib.Core.Path.{◌≡◌, refl, sym, ap, subst, ◌∙◌}
 use mathlib.Core.Bool.{Bool, true, false, not, ◌&&◌}
 use mathlib.Core.List.{List, [], ◌∷◌, map}
@@ -27,11 +27,11 @@ use Rattle.show.specs.Filling.{room_text}
 use Rattle.show.proofs.Answers.{made_there, shown_word}
 use Rattle.word.specs.Deciding.{decided_by}
 use Rattle.commit.specs.declared.Ruling.{Ruling}
-use Rattle.commit.specs.declared.Ruling.TheVariants.{Keep, Restore, Refused}
+use Rattle.commit.specs.declared.Ruling.TheVariants.{Keep, Restore}
 use Rattle.commit.specs.Rulings.{decided, judged_if, judged, ruling_of}
 
-abbrev refused_as : ℕ → ℕ → Ruling
-refused_as n v = Refused (record { number = n; value = v })
+abbrev refused_as : ℕ → ℕ → Result Ruling Refusal
+refused_as n v = Err (record { number = n; value = v })
 
 -- the library's comparison is the table's
 is_same : (bs cs : List ℕ) → pointwise eqb bs cs ≡ same_bytes bs cs
@@ -100,12 +100,12 @@ module _ (w : Word) where
     pub other_text : same_bytes text its_text ≡ false → refused_as 5 0 ≡ judged (word_of w) text
     other_text h = sym (ap (λ (b : Bool). judged_if b (word_of w) text) h)
 
-    pub kept : (n : ℕ) → same_bytes text its_text ≡ true → n ≡ length its_text → decision (word_of w) ≡ Kept → Keep n ≡ judged (word_of w) text
+    pub kept : (n : ℕ) → same_bytes text its_text ≡ true → n ≡ length its_text → decision (word_of w) ≡ Kept → Ok (Keep n) ≡ judged (word_of w) text
     kept n h m d =
-        ap (λ (l : ℕ). Keep l) (m ∙ sym (ap length (same_bytes_law text its_text (subst T (sym h) tt)))) ∙
+        ap (λ (l : ℕ). Ok (Keep l)) (m ∙ sym (ap length (same_bytes_law text its_text (subst T (sym h) tt)))) ∙
         sym (ap (λ (b : Bool). judged_if b (word_of w) text) h ∙ ap (λ (x : Decision). decided x text) d)
 
-    pub restored : same_bytes text its_text ≡ true → decision (word_of w) ≡ Restored → Restore ≡ judged (word_of w) text
+    pub restored : same_bytes text its_text ≡ true → decision (word_of w) ≡ Restored → (Ok Restore) ≡ judged (word_of w) text
     restored h d = sym (ap (λ (b : Bool). judged_if b (word_of w) text) h ∙ ap (λ (x : Decision). decided x text) d)
 
 module _ (m : ℕ) (ks text : List ℕ) where
@@ -136,18 +136,18 @@ module _ (m : ℕ) (ks text : List ℕ) where
     all_keys e = simp (mode, le-ltb most_keys (0 + length ks) (omega arith), e)
 
     -- typing is refused where commit is, with the same numbers
-    pub not_typed : (x : Refusal) → (type_all m ks).answer ≡ Err x → Refused x ≡ ruling_of m ks text
+    pub not_typed : (x : Refusal) → (type_all m ks).answer ≡ Err x → Err x ≡ ruling_of m ks text
     not_typed x e = go (all (is_key m) ks) refl
       where
-        go : (b : Bool) → all (is_key m) ks ≡ b → Refused x ≡ ruling_of m ks text
+        go : (b : Bool) → all (is_key m) ks ≡ b → Err x ≡ ruling_of m ks text
         go true d =
-            let f : (Ok tt) ≡ Err x = sym (all_keys d) ∙ e in
+            let f : ◌≡◌ {A = Result ⊤ Refusal} (Ok tt) (Err x) = sym (all_keys d) ∙ e in
             let z : ◌≡◌ {A = ℕ} 0 1 = cc in
             absurd (omega arith)
         go false d =
             let f : Err x ≡ Err (record { number = 3; value = 0 + allowed_before m ks }) = sym e ∙ typed_no_key d in
             let g : x ≡ record { number = 3; value = 0 + allowed_before m ks } = cc in
-            ap (λ (y : Refusal). Refused y) g ∙ no_key d
+            ap (λ (y : Refusal). Err y) g ∙ no_key d
 
     -- past the keys: the ruling is that on the word that they make
     module _ (a : (type_all m ks).answer ≡ (Ok tt)) where
@@ -157,7 +157,7 @@ module _ (m : ℕ) (ks text : List ℕ) where
           go : (b : Bool) → all (is_key m) ks ≡ b → b ≡ true
           go true d = refl
           go false d =
-              let f : (Ok tt) ≡ Err (record { number = 3; value = 0 + allowed_before m ks }) = sym a ∙ typed_no_key d in
+              let f : ◌≡◌ {A = Result ⊤ Refusal} (Ok tt) (Err (record { number = 3; value = 0 + allowed_before m ks })) = sym a ∙ typed_no_key d in
               let z : ◌≡◌ {A = ℕ} 0 1 = cc in
               absurd (omega arith)
 

@@ -9,26 +9,16 @@ ghost use Rattle.commit.specs.Rulings.{judged, ruling_of, handed_from};
 
 use rules::{Decision, Refusal, Word};
 
-// What is to be handed back: so many bytes of the text, the keys, or nothing.
-#[derive(Clone, Copy)]
+// What is to be handed back: so many bytes of the text, or the keys.
+#[derive(Clone, Copy, Debug, PartialEq, Eq)]
 pub enum Ruling {
     Keep(usize),
     Restore,
-    Refused(Refusal),
-}
-
-fn refused(number: u8, value: usize) -> Ruling
-    ensures { result ≡ Ruling.Refused (record { number = number; value = value }) }
-{
-    Ruling::Refused(Refusal {
-        number: number,
-        value: value,
-    })
 }
 
 // The lent text is exactly what the word shows: the decision on the word; else refusal 5.
 // The word is in range, and is not asked about again.
-fn judge(w: &Word, text: &[u8]) -> Ruling
+fn judge(w: &Word, text: &[u8]) -> Result<Ruling, Refusal>
     requires { out_of_range w.now ≡ false }
     ensures { result ≡ judged (word_of w.now) text.now }
 {
@@ -36,35 +26,43 @@ fn judge(w: &Word, text: &[u8]) -> Ruling
     let mut shown = [0; Word::TEXT];
     let n = show::in_room(letters, w.tone, &mut shown);
     if text != &shown[..n] {
-        return refused(5, 0);
+        return Err(Refusal {
+            number: 5,
+            value: 0,
+        });
     }
     let untouched = (w.acted == 0) & (w.undone == 0);
     let verdict = syllable::verdict(letters, w.tone);
-    let decision = word::decided(letters, untouched, w.closed, verdict);
-    if let Decision::Keep = decision {
-        return Ruling::Keep(n);
+    match word::decided(letters, untouched, w.closed, verdict) {
+        Decision::Keep => Ok(Ruling::Keep(n)),
+        Decision::Restore => Ok(Ruling::Restore),
     }
-    Ruling::Restore
 }
 
 // The one look that commit and its question take: refused, or the decision on the word that the keys make. Refusals: 1, 2 (32), 2 (96), 3, 5.
-pub fn rule(mode: u8, keys: &[u8], text: &[u8]) -> Ruling
+pub fn rule(mode: u8, keys: &[u8], text: &[u8]) -> Result<Ruling, Refusal>
     ensures { result ≡ ruling_of mode keys.now text.now }
 {
     if !keys::is_mode(mode) {
-        return refused(1, 0);
+        return Err(Refusal {
+            number: 1,
+            value: 0,
+        });
     }
     if Word::KEYS < keys.len() {
-        return refused(2, Word::KEYS);
+        return Err(Refusal {
+            number: 2,
+            value: Word::KEYS,
+        });
     }
     if Word::TEXT < text.len() {
-        return refused(2, Word::TEXT);
+        return Err(Refusal {
+            number: 2,
+            value: Word::TEXT,
+        });
     }
     let all = word::type_all(mode, keys);
-    let answer = all.answer;
-    if let Err(refusal) = answer {
-        return Ruling::Refused(refusal);
-    }
+    all.answer?;
     judge(&all.word, text)
 }
 
@@ -73,9 +71,9 @@ pub fn commit<'a>(mode: u8, keys: &'a [u8], text: &'a [u8]) -> &'a [u8]
     ensures { (result.now ≡ commit_of mode keys.now text.now) × (result.ref_ptr ≡ handed_from (ruling_of mode keys.now text.now) keys.entry.ref_ptr text.entry.ref_ptr) }
 {
     match rule(mode, keys, text) {
-        Ruling::Keep(n) => &text[..n],
-        Ruling::Restore => keys,
-        Ruling::Refused(_) => &keys[..0],
+        Ok(Ruling::Keep(n)) => &text[..n],
+        Ok(Ruling::Restore) => keys,
+        Err(_) => &keys[..0],
     }
 }
 
@@ -83,9 +81,6 @@ pub fn commit<'a>(mode: u8, keys: &'a [u8], text: &'a [u8]) -> &'a [u8]
 pub fn answer(mode: u8, keys: &[u8], text: &[u8]) -> Result<(), Refusal>
     ensures { result ≡ commit_answer mode keys.now text.now }
 {
-    match rule(mode, keys, text) {
-        Ruling::Keep(_) => Ok(()),
-        Ruling::Restore => Ok(()),
-        Ruling::Refused(refusal) => Err(refusal),
-    }
+    rule(mode, keys, text)?;
+    Ok(())
 }

@@ -15,19 +15,19 @@ pub returns-then-ne : goal.returns-then-ne
 returns-then-ne c =
     let w = c.args.w.now in
     let same = compared w c.requires c.in_room-n.result _ _ (lit≤ tt) c.in_room-n.ensures.0 c.in_room-n.ensures.1 c.args.text.now c.ne.ensures in
-    c.refused.ensures ∙ other_text w c.args.text.now (same ∙ ap not c.if-ne.true)
+    other_text w c.args.text.now (same ∙ ap not c.if-ne.true)
 
 pub returns-in-Keep : goal.returns-in-Keep
 returns-in-Keep c =
     let w = c.args.w.now in
     let same = compared w c.requires c.in_room-n.result _ _ (lit≤ tt) c.in_room-n.ensures.0 c.in_room-n.ensures.1 c.args.text.now c.ne.ensures in
     let long = text_long w c.requires c.in_room-n.result _ _ (lit≤ tt) c.in_room-n.ensures.0 c.in_room-n.ensures.1 in
-    let by_word : c.decided-decision.result ≡ decision (word_of w) = decides_so w _ _ c.verdict-verdict.ensures c.decided-decision.ensures in
+    let by_word : c.decided.result ≡ decision (word_of w) = decides_so w _ _ c.verdict-verdict.ensures c.decided.ensures in
     kept w c.args.text.now c.in_room-n.result (same ∙ ap not c.if-ne.false) long (sym by_word ∙ c.in-Keep.is)
 
-pub returns : goal.returns
-returns c =
+pub returns-in-Restore : goal.returns-in-Restore
+returns-in-Restore c =
     let w = c.args.w.now in
     let same = compared w c.requires c.in_room-n.result _ _ (lit≤ tt) c.in_room-n.ensures.0 c.in_room-n.ensures.1 c.args.text.now c.ne.ensures in
-    let by_word : c.decided-decision.result ≡ decision (word_of w) = decides_so w _ _ c.verdict-verdict.ensures c.decided-decision.ensures in
-    restored w c.args.text.now (same ∙ ap not c.if-ne.false) (sym by_word ∙ c.in_default.is)
+    let by_word : c.decided.result ≡ decision (word_of w) = decides_so w _ _ c.verdict-verdict.ensures c.decided.ensures in
+    restored w c.args.text.now (same ∙ ap not c.if-ne.false) (sym by_word ∙ c.in-Restore.is)

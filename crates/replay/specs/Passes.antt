@@ -8,7 +8,6 @@ use Rattle.recording.specs.declared.Begun.{Begun}
 use Rattle.replay.specs.Replays.{committed_line, Tally, if_kept, if_restored, nothing, together, of_words, words_from, milliseconds, summary, done_of}
 use Rattle.replay.specs.declared.Found.{Found}
 use Rattle.replay.specs.declared.WordDone.{WordDone}
-use Rattle.rules.specs.declared.Outcome.{Outcome}
 
 -- the numbers of a tally: of its text the length
 abbrev pub total_of : Tally → Found

@@ -43,12 +43,6 @@ pub struct WordDone {
     pub appended: u8,
 }
 
-#[derive(Clone, Copy)]
-pub enum WordAnswer {
-    Committed(WordDone),
-    Refused(Refusal),
-}
-
 // The most that a word's line has: a text of 96 bytes, and a newline.
 pub const LINE: usize = 97;
 
@@ -59,12 +53,6 @@ const NEWLINE: u8 = b'\n';
 struct Found {
     written: usize,
     summary: Summary,
-}
-
-#[derive(Clone, Copy)]
-enum Passage {
-    Passed(Found),
-    Broken(Refusal),
 }
 
 // What is committed, the shown text of the letters or the keys, made at the front of the line itself: it has room for any text.
@@ -113,10 +101,7 @@ pub fn commit_word(mode: u8, keys: &[u8], line: &mut [u8; LINE]) -> Result<WordD
     ensures { (result ≡ (word_replayed mode keys.now line.old).answer) × (line.new ≡ (word_replayed mode keys.now line.old).line) }
 {
     let all = word::type_all(mode, keys);
-    let answer = all.answer;
-    if let Err(refusal) = answer {
-        return Err(refusal);
-    }
+    all.answer?;
     Ok(line_of(all.word, line))
 }
 
@@ -201,20 +186,12 @@ fn pass(recording: &[u8], begun: Begun, out: &mut [u8]) -> Result<Found, Refusal
     let mut found = Found::default();
     loop {
         let step = recording::step_at(recording, at, progress);
-        let met = step.press;
-        match met {
-            Ok(Some(x)) => {
-                press(progress, x.key, &mut keys, &mut found, out);
-                at = step.at;
-                progress = step.progress;
-            }
-            Ok(None) => {
-                break;
-            }
-            Err(refusal) => {
-                return Err(refusal);
-            }
-        }
+        let Some(x) = step.press? else {
+            break;
+        };
+        press(progress, x.key, &mut keys, &mut found, out);
+        at = step.at;
+        progress = step.progress;
     }
     found.add_last(progress.mode, &keys[..progress.in_word], out);
     found.summary.milliseconds = progress.milliseconds as u32;
@@ -246,11 +223,11 @@ fn replay_from(recording: &[u8], begun: Begun, out: &mut [u8]) -> ReplayAnswer
                     value: needed,
                 });
             }
-            pass(recording, begun, out);
+            let _ = pass(recording, begun, out);
             let summary = found.summary;
             ReplayAnswer {
                 answer: Ok(needed),
-                summary: summary,
+                summary,
             }
         }
     }

@@ -8,7 +8,7 @@ use borrow.Author.Tests.{eq-eqb, ne_eqb, leb-true, leb-false, lt-ltb, le-ltb}
 use lib.Dec.{leb}
 use lib.ListN.{length, take, drop, set, length-take, length-drop, take-append-drop, drop_of_length-le}
 use lib.Seq.{take_all}
-use Rattle.std.specs.Prelude.{Option, Some, None, Ok, Err}
+use Rattle.std.specs.Prelude.{Option, Some, None, Ok, Err, Result}
 use Rattle.rules.specs.TheWord.{at_front}
 use Rattle.rules.specs.WhatComesBack.{Written}
 use Rattle.rules.specs.Drill.{newline}
@@ -61,7 +61,7 @@ module _ (text out : List ℕ) where
           let f : Ok (length text) ≡ Ok n = sym (ap (λ (y : Written). y.answer) g) ∙ e in
           record { test = d; many = cc; output = ap (λ (y : Written). y.output) g }
       go false d =
-          let f : Err (record { number = 4; value = length text }) ≡ Ok n = sym (ap (λ (y : Written). y.answer) (too_long text out (leb-false (length text) (length out) d))) ∙ e in
+          let f : ◌≡◌ {A = Result ℕ Refusal} (Err (record { number = 4; value = length text })) (Ok n) = sym (ap (λ (y : Written). y.answer) (too_long text out (leb-false (length text) (length out) d))) ∙ e in
           let z : ◌≡◌ {A = ℕ} 0 1 = cc in
           absurd (omega arith)
 

@@ -9,6 +9,7 @@ ghost use Rattle.lines.specs.declared.Program.{Program};
 ghost use Rattle.stream.specs.Feeding.{none_begun, line_of, kept, byte_fed, place_after, feeding, put_at, fed_of, finishing};
 
 use lines::Program;
+use rules::Refusal;
 
 // The program, and the line that has begun: its first bytes, as many as an answer can depend on, and how many they are.
 #[derive(Clone, Copy)]

@@ -96,6 +96,7 @@ pub fn feed(mut state: Begun, block: &[u8], from: usize, out: &mut [u8]) -> Fed
     ensures { (result ≡ fed_of from (feeding state (drop from block.now) (length out.old))) × (out.new ≡ at_front (feeding state (drop from block.now) (length out.old)).text out.old) }
 {
     let mut at = 0;
+    // By places: the one where the room ends is handed back, and `from` may lie past the block.
     for i in from..block.len() {
         let Some(behind) = state.feed_byte(block[i], out, at) else {
             return Fed {

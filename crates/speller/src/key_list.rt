@@ -1,4 +1,5 @@
-// A key list as it is put together: each method puts its keys behind those that the list holds.
+// A key list as it is put together: each method puts its keys behind those that the list holds. The crate lines fills
+// an array of its own so: shared, that would be public functions with a requires, and the library has none.
 
 ghost use Rattle.std.specs.Prelude.{◌≤◌};
 ghost use Rattle.speller.specs.declared.key_list.TheConstants.{MOST};

@@ -61,7 +61,8 @@ pub struct Parts {
     pub end: usize,
 }
 
-// Takes a word apart.
+// Takes a word apart. Put into its callers: as a call it took 36 instructions a key more in the one call, 20 in commit and 23 in the drill.
+#[inline]
 pub fn apart(s: &[u16]) -> Parts
     ensures { result ≡ parts_of (map letter s.now) }
 {

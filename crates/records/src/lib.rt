@@ -40,7 +40,7 @@ pub fn places_wrong(w: &Word) -> bool
 {
     let mut wrong = false;
     for (i, (&by, &shaped)) in w.appended_by.iter().zip(&w.shaped_by).enumerate() {
-        wrong = wrong | (((i as u8) < w.count) & ((w.typed <= by) | (w.typed < keys_for(shaped))));
+        wrong |= ((i as u8) < w.count) & ((w.typed <= by) | (w.typed < keys_for(shaped)));
     }
     wrong | (w.typed < keys_for(w.toned_by))
 }
@@ -78,9 +78,10 @@ pub fn numbers_wrong(w: &Word) -> bool
     ensures { result ≡ numbers_wrong_of w.now }
 {
     ((Word::KEYS as u8) < w.typed)
-        | ((w.typed < w.count)
-            | (!(w.acted as usize + w.undone as usize + w.appended as usize == w.typed as usize)
-                | ((DOT < w.tone) | !keys::is_mode(w.mode))))
+        | (w.typed < w.count)
+        | (w.acted as usize + w.undone as usize + w.appended as usize != w.typed as usize)
+        | (DOT < w.tone)
+        | !keys::is_mode(w.mode)
 }
 
 // The same of a record that is lent.

@@ -1,4 +1,4 @@
--- The conditions of refusal 8 in the order in which the code asks them, and one turn of each loop.
+-- The conditions of refusal 8 in the order in which the code asks them.
 use mathlib.Core.Path.{◌≡◌, refl, ap, ap₂, sym, ◌∙◌}
 use mathlib.Core.Bool.{Bool, true, false, not, ◌&&◌, ◌||◌}
 use mathlib.Core.List.{List, [], ◌∷◌}

@@ -35,7 +35,8 @@ fn judge(w: &Word, text: &[u8]) -> Ruling
     let letters = &w.letters[..w.count as usize];
     let mut shown = [0; Word::TEXT];
     let n = show::in_room(letters, w.tone, &mut shown);
-    if text != &shown[..n] {
+    // By iterators: == of slices, which takes many bytes at once, is 500 bytes of code more.
+    if !text.iter().eq(&shown[..n]) {
         return refused(5, 0);
     }
     let untouched = (w.acted == 0) & (w.undone == 0);

@@ -179,7 +179,8 @@ pub fn fz_show(lent: &[u8], out: &mut [u8], value: &mut usize) -> u8
     if !reading.is_record {
         return no_record(value);
     }
-    match show::show_in(&reading.word, out) {
+    let w = reading.word;
+    match show::show_in(&w, out) {
         WriteAnswer::Wrote(bytes) => answered(bytes, value),
         WriteAnswer::Refused(refusal) => refused(refusal, value),
     }

@@ -34,12 +34,15 @@ fn keys_for(place: u8) -> u8
 }
 
 // A letter's key that is not among those typed, or the tone's. The turns are as many for every word, so that the compiler takes sixteen
-// letters at once; what stands past the letters is of no account.
+// letters at once; what stands past the letters is of no account. The arrays are taken out of the word: where they are gone over in it, a
+// caller that has read the word just before must put all of it into memory.
 pub fn places_wrong(w: &Word) -> bool
     ensures { result ≡ places_wrong_of w.now }
 {
+    let appended_by = w.appended_by;
+    let shaped_by = w.shaped_by;
     let mut wrong = false;
-    for (i, (&by, &shaped)) in w.appended_by.iter().zip(&w.shaped_by).enumerate() {
+    for (i, (&by, &shaped)) in appended_by.iter().zip(&shaped_by).enumerate() {
         wrong |= ((i as u8) < w.count) & ((w.typed <= by) | (w.typed < keys_for(shaped)));
     }
     wrong | (w.typed < keys_for(w.toned_by))

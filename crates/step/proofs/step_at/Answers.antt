@@ -33,7 +33,7 @@ slice_bounds-keys_allowed-end c =
     let bs = c.args.lent.now in
     let w = c.read-reading.result.word in
     let whole : Whole w = subst (λ (x : RecordRead). Whole x.word) (sym c.read-reading.ensures) (read_whole bs) in
-    omega (arith, whole.keys, (few w c.numbers_wrong.ensures c.places_wrong.ensures c.if-numbers_wrong-places_wrong.false).0)
+    sym (length-take-le w.typed w.keys (omega (arith, whole.keys, (few w c.numbers_wrong.ensures c.places_wrong.ensures c.if-numbers_wrong-places_wrong.false).0)))
 
 pub returns-then-not-keys_allowed : goal.returns-then-not-keys_allowed
 returns-then-not-keys_allowed c =

@@ -80,9 +80,11 @@ pub fn numbers_of(w: Word) -> Numbers
 pub fn numbers_wrong(w: &Word) -> bool
     ensures { result ≡ numbers_wrong_of w.now }
 {
-    ((Word::KEYS as u8) < w.typed)
+    // Named before the sum: the loop over the keys then goes by it, and not by the sum.
+    let typed = w.typed as usize;
+    (Word::KEYS < typed)
         | (w.typed < w.count)
-        | (w.acted as usize + w.undone as usize + w.appended as usize != w.typed as usize)
+        | (w.acted as usize + w.undone as usize + w.appended as usize != typed)
         | (DOT < w.tone)
         | !keys::is_mode(w.mode)
 }

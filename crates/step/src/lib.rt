@@ -322,7 +322,7 @@ pub fn step_at(lent: &mut [u8], key: u8) -> StepAnswer
         return refused(8, 0);
     }
     let at = w.typed as usize;
-    // The keys are taken out, for the same reason as in places_wrong.
+    // The keys are taken out of the word, for the same reason as the places in records::places_wrong.
     let kept = w.keys;
     if !records::keys_allowed(mode, &kept[..at]) {
         return refused(8, 0);

@@ -40,10 +40,6 @@ is_same [] (c ∷ cs) = refl
 is_same (b ∷ bs) [] = refl
 is_same (b ∷ bs) (c ∷ cs) = ap (◌&&◌ (eqb b c)) (is_same bs cs)
 
-not_not : (b : Bool) → not (not b) ≡ b
-not_not true = refl
-not_not false = refl
-
 module _ (w : Word) where
   abbrev its_text : List ℕ
   its_text = shown (word_of w).state
@@ -76,8 +72,8 @@ module _ (w : Word) where
       front_made = let m : n ≡ n - 0 = omega arith in ap (λ (k : ℕ). take k buffer) m ∙ text_front
 
       -- a text that is compared with what is made is compared with the word's
-      pub compared : (text : List ℕ) {other : Bool} → other ≡ not (pointwise eqb text (take n buffer)) → same_bytes text its_text ≡ not other
-      compared text e = sym (not_not (same_bytes text its_text)) ∙ ap not (sym (e ∙ ap not (is_same text (take n buffer) ∙ ap (same_bytes text) front_made)))
+      pub compared : (text : List ℕ) {same : Bool} → same ≡ pointwise eqb text (take n buffer) → same_bytes text its_text ≡ same
+      compared text e = sym (e ∙ is_same text (take n buffer) ∙ ap (same_bytes text) front_made)
 
     -- the same of parts that are taken from place 0 on
     abbrev from_0 : List ℕ

@@ -1,4 +1,4 @@
--- The conditions of refusal 8 in the order in which the code asks them, and one turn of each loop.
+-- The conditions of refusal 8 in the order in which the code asks them.
 use mathlib.Core.Path.{◌≡◌, refl, ap, ap₂, sym, ◌∙◌}
 use mathlib.Core.Bool.{Bool, true, false, not, ◌&&◌, ◌||◌}
 use mathlib.Core.List.{List, [], ◌∷◌}
@@ -91,6 +91,12 @@ or-true : (p : Bool) → true ≡ p || true
 or-true true = refl
 or-true false = refl
 
+in_a_row : (a b c d e : Bool) → ((((a || b) || c) || d) || e) ≡ (a || (b || (c || (d || e))))
+in_a_row true b c d e = refl
+in_a_row false true c d e = refl
+in_a_row false false true d e = refl
+in_a_row false false false d e = refl
+
 module _ (t c a u p : ℕ) (x : Bool) where
   abbrev others : Bool
   others = ltb most_keys c || (ltb most_keys a || (ltb most_keys u || ltb most_keys p))
@@ -106,8 +112,9 @@ module _ (t c a u p : ℕ) (x : Bool) where
       rw (le-ltb most_keys c (omega arith), le-ltb most_keys a (omega arith), le-ltb most_keys u (omega arith), le-ltb most_keys p (omega arith))
 
 module _ (w : Word) where
-  pub counts_by_sum : (ltb most_keys w.typed || (ltb w.typed w.count || (not (eqb (w.acted + w.undone + w.appended) w.typed) || (ltb dot w.tone || not (is_mode w.mode))))) ≡ numbers_wrong w
-  counts_by_sum = by_sum w.typed w.count w.acted w.undone w.appended (ltb dot w.tone || not (is_mode w.mode)) _ _ _ refl refl refl
+  pub counts_by_sum : ((((ltb most_keys w.typed || ltb w.typed w.count) || not (eqb (w.acted + w.undone + w.appended) w.typed)) || ltb dot w.tone) || not (is_mode w.mode)) ≡ numbers_wrong w
+  counts_by_sum =
+      in_a_row (ltb most_keys w.typed) (ltb w.typed w.count) _ _ _ ∙ by_sum w.typed w.count w.acted w.undone w.appended (ltb dot w.tone || not (is_mode w.mode)) _ _ _ refl refl refl
 
   -- counts in order are at most 32
   module _ (e : numbers_wrong w ≡ false) where

@@ -34,13 +34,16 @@ fn keys_for(place: u8) -> u8
 }
 
 // A letter's key that is not among those typed, or the tone's. The turns are as many for every word, so that the compiler takes sixteen
-// letters at once; what stands past the letters is of no account.
+// letters at once; what stands past the letters is of no account. The arrays are taken out of the word: where they are gone over in it, a
+// caller that has read the word just before must put all of it into memory.
 pub fn places_wrong(w: &Word) -> bool
     ensures { result ≡ places_wrong_of w.now }
 {
+    let appended_by = w.appended_by;
+    let shaped_by = w.shaped_by;
     let mut wrong = false;
-    for (i, (&by, &shaped)) in w.appended_by.iter().zip(&w.shaped_by).enumerate() {
-        wrong = wrong | (((i as u8) < w.count) & ((w.typed <= by) | (w.typed < keys_for(shaped))));
+    for (i, (&by, &shaped)) in appended_by.iter().zip(&shaped_by).enumerate() {
+        wrong |= ((i as u8) < w.count) & ((w.typed <= by) | (w.typed < keys_for(shaped)));
     }
     wrong | (w.typed < keys_for(w.toned_by))
 }
@@ -77,10 +80,13 @@ pub fn numbers_of(w: Word) -> Numbers
 pub fn numbers_wrong(w: &Word) -> bool
     ensures { result ≡ numbers_wrong_of w.now }
 {
-    ((Word::KEYS as u8) < w.typed)
-        | ((w.typed < w.count)
-            | (!(w.acted as usize + w.undone as usize + w.appended as usize == w.typed as usize)
-                | ((DOT < w.tone) | !keys::is_mode(w.mode))))
+    // Named before the sum: the loop over the keys then goes by it, and not by the sum.
+    let typed = w.typed as usize;
+    (Word::KEYS < typed)
+        | (w.typed < w.count)
+        | (w.acted as usize + w.undone as usize + w.appended as usize != typed)
+        | (DOT < w.tone)
+        | !keys::is_mode(w.mode)
 }
 
 // The same of a record that is lent.

@@ -320,7 +320,9 @@ pub fn step_at(lent: &mut [u8], key: u8) -> Result<Outcome, Refusal>
         return refused(8, 0);
     }
     let at = w.typed as usize;
-    if !records::keys_allowed(mode, &w.keys[..at]) {
+    // The keys are taken out of the word, for the same reason as the places in records::places_wrong.
+    let kept = w.keys;
+    if !records::keys_allowed(mode, &kept[..at]) {
         return refused(8, 0);
     }
     let mut letters = layout::letters_of(lent);

@@ -11,5 +11,5 @@ use Rattle.records.proofs.numbers_wrong.Goals as goal
 pub returns : goal.returns
 returns c =
     let w = c.args.w.now in
-    ap (λ (b : Bool). ltb most_keys w.typed || (ltb w.typed w.count || (not (eqb (w.acted + w.undone + w.appended) w.typed) || (ltb dot w.tone || not b)))) c.is_mode.ensures ∙
+    ap (λ (b : Bool). (((ltb most_keys w.typed || ltb w.typed w.count) || not (eqb (w.acted + w.undone + w.appended) w.typed)) || ltb dot w.tone) || not b) c.is_mode.ensures ∙
     counts_by_sum w

@@ -35,7 +35,7 @@ slice_bounds-keys_allowed-end c =
     let bs = c.args.lent.now in
     let w = c.in-Some.w in
     let whole : Whole w = subst (λ (x : Option Word). Whole (or_new x)) (sym (sym c.in-Some.is ∙ c.read.ensures)) (read_whole bs) in
-    omega (arith, whole.keys, (few w c.numbers_wrong.ensures c.places_wrong.ensures c.if-numbers_wrong-places_wrong.false).0)
+    sym (length-take-le w.typed w.keys (omega (arith, whole.keys, (few w c.numbers_wrong.ensures c.places_wrong.ensures c.if-numbers_wrong-places_wrong.false).0)))
 
 pub returns-then-not-keys_allowed : goal.returns-then-not-keys_allowed
 returns-then-not-keys_allowed c =

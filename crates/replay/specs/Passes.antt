@@ -7,6 +7,7 @@ use Rattle.recording.specs.Recordings.{Reading, broken, presses, read_from}
 use Rattle.recording.specs.declared.Begun.{Begun}
 use Rattle.replay.specs.Replays.{committed_line, Tally, if_kept, if_restored, nothing, together, of_words, words_from, milliseconds, summary, done_of}
 use Rattle.replay.specs.declared.Found.{Found}
+use Rattle.replay.specs.declared.ReplayAnswer.{ReplayAnswer}
 use Rattle.replay.specs.declared.WordDone.{WordDone}
 
 -- the numbers of a tally: of its text the length
@@ -35,6 +36,11 @@ found_of t ms =
 abbrev pub passage_of : Outcome → Result Found Refusal
 passage_of (stopped r) = Err r
 passage_of (finished t ms) = Ok (found_of (total_of t) ms)
+
+-- what a replay answers, by what it found
+abbrev pub told : Result Found Refusal → ReplayAnswer
+told (Ok f) = record { answer = Ok f.written; summary = f.summary }
+told (Err r) = record { answer = Err r; summary = summary nothing 0 }
 
 -- the lines stand at the front of the output, where there was room for all of them
 abbrev pub LinesPut : Outcome → (before after : List ℕ) → Type 0

@@ -9,8 +9,8 @@ ghost use Rattle.rules.specs.Refusals.{all, is_mode, out_of_range};
 ghost use Rattle.rules.specs.WhatComesBack.{typed};
 ghost use Rattle.show.specs.Filling.{room_text};
 ghost use Rattle.recording.specs.Recordings.{is_space, begin};
-ghost use Rattle.replay.specs.Replays.{committed_line, done_of, word_replayed, refused_replay, replayed};
-ghost use Rattle.replay.specs.Passes.{throughout, passage_of, LinesPut, with_done, Fits, FitsKeys, line_at, some_keys, total_if, keys_unless, output_if};
+ghost use Rattle.replay.specs.Replays.{committed_line, done_of, word_replayed, replayed};
+ghost use Rattle.replay.specs.Passes.{throughout, passage_of, told, LinesPut, with_done, Fits, FitsKeys, line_at, some_keys, total_if, keys_unless, output_if};
 
 use recording::{Begun, Progress, SPACE};
 use rules::{Decision, Refusal, Word};
@@ -198,39 +198,19 @@ fn pass(recording: &[u8], begun: Begun, out: &mut [u8]) -> Result<Found, Refusal
     Ok(found)
 }
 
-fn refused(refusal: Refusal) -> ReplayAnswer
-    ensures { result ≡ (refused_replay refusal []).result }
-{
-    ReplayAnswer {
-        answer: Err(refusal),
-        summary: Summary::default(),
-    }
-}
-
 // The first pass writes nothing: it finds what is refused, the bytes needed and the summary. Only then is the output touched.
-fn replay_from(recording: &[u8], begun: Begun, out: &mut [u8]) -> ReplayAnswer
-    requires { begin recording.now ≡ Ok begun }
-    ensures { (result ≡ (replayed recording.now out.old).result) × (out.new ≡ (replayed recording.now out.old).output) }
+fn played(recording: &[u8], out: &mut [u8]) -> Result<Found, Refusal>
+    ensures { (told result ≡ (replayed recording.now out.old).result) × (out.new ≡ (replayed recording.now out.old).output) }
 {
-    let first = pass(recording, begun, &mut out[0..0]);
-    match first {
-        Err(refusal) => refused(refusal),
-        Ok(found) => {
-            let needed = found.written;
-            if out.len() < needed {
-                return refused(Refusal {
-                    number: 4,
-                    value: needed,
-                });
-            }
-            let _ = pass(recording, begun, out);
-            let summary = found.summary;
-            ReplayAnswer {
-                answer: Ok(needed),
-                summary,
-            }
-        }
+    let begun = recording::begin(recording)?;
+    let found = pass(recording, begun, &mut out[..0])?;
+    if out.len() < found.written {
+        return Err(Refusal {
+            number: 4,
+            value: found.written,
+        });
     }
+    pass(recording, begun, out)
 }
 
 // The committed words of a recording at the front of the output, each with a newline, and the summary.
@@ -238,9 +218,14 @@ fn replay_from(recording: &[u8], begun: Begun, out: &mut [u8]) -> ReplayAnswer
 pub fn replay(recording: &[u8], out: &mut [u8]) -> ReplayAnswer
     ensures { (result ≡ (replayed recording.now out.old).result) × (out.new ≡ (replayed recording.now out.old).output) }
 {
-    let mode = recording::begin(recording);
-    match mode {
-        Err(refusal) => refused(refusal),
-        Ok(begun) => replay_from(recording, begun, out),
+    match played(recording, out) {
+        Ok(found) => ReplayAnswer {
+            answer: Ok(found.written),
+            summary: found.summary,
+        },
+        Err(refusal) => ReplayAnswer {
+            answer: Err(refusal),
+            summary: Summary::default(),
+        },
     }
 }

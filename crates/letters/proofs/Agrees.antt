@@ -7,8 +7,8 @@ use Prim.Native.Nat.{ℕ, suc, ◌+◌, ◌-◌, ◌<◌, ◌≤◌}
 use native.Mathlib.Numerals.{add-one}
 use native.Mathlib.Omega.{arith}
 use lib.Dec.{T, T_not, eqb, ltb}
-use lib.ListN.{length, get_or, drop, drop_of_length-le}
-use lib.Seq.{drop-cons}
+use lib.ListN.{length, get_or, drop, length-drop, drop_of_length-le}
+use lib.Seq.{take_all, drop-cons}
 use lib.Ieee.Fits.{and_i, and_l, and_r}
 use borrow.Author.Tests.{eqb-true, lt-ltb, le-ltb, ltb-true, ltb-false}
 use Rattle.rules.specs.TheWord.{number}
@@ -17,6 +17,7 @@ use Rattle.rules.specs.Speller.{starts, Front, no_letter, a_letter, front_in, le
 use Rattle.letters.specs.declared.LetterRead.{LetterRead}
 use Rattle.letters.specs.Alphabet.{every_sign, in_alphabet}
 use Rattle.letters.specs.LettersRead.{read_of, read_at}
+use Rattle.std.specs.List.{slice_range}
 use Rattle.letters.specs.Decoding.{one_byte, two_bytes, three_bytes, third_of, second_of, decoded, read_as}
 use Rattle.letters.proofs.Fronts.{of_alphabet, decodes_back}
 use Rattle.letters.proofs.Stands.{Stands, none_there, one_there, stands_one, stands_two, stands_three}
@@ -102,6 +103,13 @@ reads bs v e = own v ∙ ap read_of (sym e ∙ agree bs)
 there : {r : Option LetterRead} (text : List ℕ) (at : ℕ) (bs : List ℕ) → drop at text ≡ bs → r ≡ read_of (letter_at bs) → r ≡ read_at text at
 unfolding read_at
 there text at bs e d = d ∙ ap (λ (v : List ℕ). read_of (letter_at v)) (sym e)
+
+-- of the bytes that are left there, taken by themselves
+pub at_front : (text : List ℕ) (at : ℕ) (bs : List ℕ) → bs ≡ slice_range text at (length text) → read_at bs 0 ≡ read_at text at
+unfolding read_at
+at_front text at bs e =
+    let long : length (drop at text) ≤ length text - at = simp length-drop (omega arith) in
+    ap (λ (v : List ℕ). read_of (letter_at v)) (e ∙ take_all (length text - at) (drop at text) long)
 
 pub read_end : (text : List ℕ) (at : ℕ) → length text ≤ at → None ≡ read_at text at
 read_end text at l = there text at [] (drop_of_length-le text l) (reads {n = 0} [] none_there refl)

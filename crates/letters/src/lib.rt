@@ -182,23 +182,10 @@ fn point_of_three(first: u8, second: u8, third: u8) -> u16
 pub fn read(text: &[u8], at: usize) -> Option<LetterRead>
     ensures { result ≡ read_at text.now at }
 {
-    if text.len() <= at {
-        return None;
+    match text.get(at..)? {
+        [first, ..] if *first < 0x80 => one_byte(*first),
+        [first, second, ..] if *first < 0xE0 => two_bytes(*first, *second),
+        [first, second, third, ..] => three_bytes(*first, *second, *third),
+        _ => None,
     }
-    let left = text.len() - at;
-    let first = text[at];
-    if first < 0x80 {
-        return one_byte(first);
-    }
-    if left < 2 {
-        return None;
-    }
-    let second = text[at + 1];
-    if first < 0xE0 {
-        return two_bytes(first, second);
-    }
-    if left < 3 {
-        return None;
-    }
-    three_bytes(first, second, text[at + 2])
 }

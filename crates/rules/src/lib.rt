@@ -11,7 +11,8 @@ ghost use Rattle.rules.specs.KeyRoles.{shaped};
 // A letter is one number: its base, 256 times its shape, and 2048 more for a capital.
 // Beside each letter stand the places among the keys, from 0, of the key that appended it and of the last that shaped it, and
 // beside the tone that of the last key that set it; NO_KEY where there is none.
-// Every field is public, so any record can be handed in; what is out of range is refused (refusal 8).
+// Every field is public, so any record can be handed in; what is out of range is refused (refusal 8). So mode and tone are numbers and no
+// enums, and the arrays stand beside their counts: of any numbers the entries say what the rules say, and nothing is allocated.
 #[derive(Clone, Copy)]
 pub struct Word {
     pub mode: u8,
@@ -59,7 +60,7 @@ impl Word {
         ensures { result ≡ new_word mode }
     {
         Word {
-            mode: mode,
+            mode,
             letters: [0; Word::KEYS],
             appended_by: [0; Word::KEYS],
             shaped_by: [0; Word::KEYS],
@@ -76,7 +77,7 @@ impl Word {
     }
 }
 
-// The shapes of a letter.
+// The shapes of a letter: numbers, since a letter's number holds one, whatever it is.
 pub const PLAIN: u8 = 0;
 
 pub const CIRCUMFLEX: u8 = 1;
@@ -125,7 +126,7 @@ pub fn reshaped(letter: u16, shape: u8) -> u16
     letter % 256 + 256 * ((shape % 8) as u16) + letter / CAPITAL % 2 * CAPITAL
 }
 
-// The tones of a word.
+// The tones of a word: numbers, since a record may hold any.
 pub const NO_TONE: u8 = 0;
 
 pub const ACUTE: u8 = 1;
@@ -193,13 +194,15 @@ pub enum Decision {
     Restore,
 }
 
-// A refusal: its number in the table, and the number returned.
+// A refusal: its number in the table, and the number returned. Both are what each entry promises to return (`first_row` in specs/Refusals.antt), and
+// what the programs write and C is given: so a number, and no enum that would be turned into it everywhere.
 #[derive(Clone, Copy, Debug, PartialEq, Eq)]
 pub struct Refusal {
     pub number: u8,
     pub value: usize,
 }
 
+// The answers with a word beside them: a refusal hands back a word too, a new one or the old one, so the word is not in the `Ok`.
 #[derive(Drop)]
 pub struct Start {
     pub answer: Result<(), Refusal>,

@@ -31,7 +31,7 @@ use Rattle.speller.specs.contracts.spell as spell
 use Rattle.speller.proofs.spell.Reads as spell-reads
 use Rattle.lines.specs.contracts.answer_line as answer-line
 use Rattle.lines.proofs.answer_line.Reads as answer-line-reads
-use Rattle.session.specs.contracts.type_key as type-key
+use Rattle.session.specs.contracts.Session.type_key as type-key
 use Rattle.session.proofs.One.{KeyPost}
 use Rattle.rules.specs.declared.Refusal.{Refusal}
 use Rattle.rules.specs.declared.Outcome.{Outcome}

@@ -6,7 +6,7 @@ use Prim.Native.Nat.{ℕ, ◌-◌, ◌≤◌, ◌<◌}
 use native.Mathlib.Omega.{arith}
 use lib.Dec.{T, leb, leb→le, lit<}
 use lib.Ieee.Fits.{and_r}
-use lib.ListN.{take, drop, set, get_or, length-append, length-map}
+use lib.ListN.{take, set, get_or, length-append, length-map}
 use Rattle.rules.specs.Letters.{Letter, Letters, plain, horn, characters}
 use Rattle.rules.specs.Refusals.{all}
 use Rattle.rules.specs.TheWord.{State, appended, letter, number, at_front}
@@ -24,7 +24,7 @@ use Rattle.targets.proofs.Waits.{u_and_o, u_before_o, horn_on_u_law}
 use Rattle.step.specs.declared.Rest.{Rest}
 use Rattle.step.specs.declared.Done as Answer
 use Rattle.step.specs.LentLetters.{LettersInFront, RoomForLetter, NoSecondHorn, DoesAsRuled, state_in, appended_plainly, second_horn_on, with_second_horn, unless_closed_role}
-use Rattle.step.proofs.Arrays.{reshaped_at, is_front, stored, read_stored, still_given}
+use Rattle.step.proofs.Arrays.{reshaped_at, stored, read_stored, still_given}
 use Rattle.step.proofs.States.{letters_read, same_array}
 
 -- the second horn that a letter may put on
@@ -70,9 +70,6 @@ module _ (l : List ℕ) (rest : Rest) (given : LettersInFront l rest.count) wher
 
 -- whether a letter puts it on, by three questions
 module _ (l : List ℕ) (rest : Rest) where
-  pub asked_of_part : {q b : Bool} → q ≡ awaits_second_horn (map letter (take (rest.count - 0) (drop 0 l))) → q ≡ b → awaits_second_horn (state_in l rest).letters ≡ b
-  asked_of_part e f = ap awaits_second_horn (is_front l rest.count) ∙ sym e ∙ f
-
   module _ (k : Letter) where
     abbrev takes : Bool
     takes = takes_second_horn (state_in l rest) k

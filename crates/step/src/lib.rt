@@ -31,6 +31,14 @@ struct Rest {
     closed: bool,
 }
 
+impl Rest {
+    fn with_tone(self, tone: u8) -> Rest
+        ensures { result ≡ rest_with_tone self tone }
+    {
+        Rest { tone, ..self }
+    }
+}
+
 // What a key did, on which letters, and the state beside the letters then, before the key is kept and counted.
 #[derive(Clone, Copy)]
 struct Done {
@@ -48,8 +56,7 @@ fn append(letters: &mut [u16], rest: Rest, key: u8) -> Rest
     letters[n] = keys::letter_of_key(key);
     Rest {
         count: rest.count + 1,
-        tone: rest.tone,
-        closed: rest.closed,
+        ..rest
     }
 }
 
@@ -59,7 +66,7 @@ fn appended(letters: &mut [u16], rest: Rest, key: u8, touched: Touched) -> Done
 {
     Done {
         outcome: Outcome::Appended,
-        touched: touched,
+        touched,
         rest: append(letters, rest, key),
     }
 }
@@ -72,22 +79,11 @@ fn undone(letters: &mut [u16], rest: Rest, key: u8, touched: Touched) -> Done
     let next = append(letters, rest, key);
     Done {
         outcome: Outcome::Undone,
-        touched: touched,
+        touched,
         rest: Rest {
-            count: next.count,
-            tone: next.tone,
             closed: true,
+            ..next
         },
-    }
-}
-
-fn with_tone(rest: Rest, tone: u8) -> Rest
-    ensures { result ≡ rest_with_tone rest tone }
-{
-    Rest {
-        count: rest.count,
-        tone: tone,
-        closed: rest.closed,
     }
 }
 
@@ -105,18 +101,18 @@ fn tone_key(letters: &mut [u16], rest: Rest, key: u8, role: ToneKey) -> Done
         return Done {
             outcome: Outcome::Acted(Act::Clear),
             touched: Touched::NoLetter,
-            rest: with_tone(rest, NO_TONE),
+            rest: rest.with_tone(NO_TONE),
         };
     };
     if tone == wanted {
-        return undone(letters, with_tone(rest, NO_TONE), key, Touched::NoLetter);
+        return undone(letters, rest.with_tone(NO_TONE), key, Touched::NoLetter);
     }
     let n = rest.count as usize;
-    if syllable::takes_tone(&letters[0..n], wanted) {
+    if syllable::takes_tone(&letters[..n], wanted) {
         return Done {
             outcome: Outcome::Acted(Act::Tone(wanted)),
             touched: Touched::NoLetter,
-            rest: with_tone(rest, wanted),
+            rest: rest.with_tone(wanted),
         };
     }
     appended(letters, rest, key, Touched::NoLetter)
@@ -133,8 +129,8 @@ fn edit_does(letters: &mut [u16], rest: Rest, key: u8, edit: Edit) -> Done
     if let Edit::Change(act, touched) = edit {
         return Done {
             outcome: Outcome::Acted(act),
-            touched: touched,
-            rest: rest,
+            touched,
+            rest,
         };
     }
     appended(letters, rest, key, Touched::NoLetter)
@@ -154,7 +150,7 @@ fn role_in(closed: bool, mode: u8, key: u8) -> Role
 fn asks_second_horn(b: u8) -> bool
     ensures { result ≡ asks_second_horn_of b }
 {
-    ((b == b'i') | (b == b'u')) | classes::is_final(b)
+    matches!(b, b'i' | b'u') | classes::is_final(b)
 }
 
 // The horn that an appended letter puts on the u of an open huơ, khuơ or thuơ, and that u. Only letters without a role put it on.
@@ -163,13 +159,10 @@ fn second_horn(letters: &mut [u16], rest: Rest, key: u8) -> Touched
     ensures { (result ≡ second_horn_on letters.old rest (letter_of_key key)) × (letters.new ≡ with_second_horn letters.old rest (letter_of_key key)) }
 {
     let n = rest.count as usize;
-    if !targets::awaits_second_horn(&letters[0..n]) {
-        return Touched::NoLetter;
-    }
-    if rest.closed {
-        return Touched::NoLetter;
-    }
-    if !asks_second_horn(rules::base(keys::letter_of_key(key))) {
+    if !targets::awaits_second_horn(&letters[..n])
+        || rest.closed
+        || !asks_second_horn(rules::base(keys::letter_of_key(key)))
+    {
         return Touched::NoLetter;
     }
     letters[n - 2] = rules::reshaped(letters[n - 2], HORN);
@@ -182,15 +175,14 @@ fn key_does(letters: &mut [u16], rest: Rest, mode: u8, key: u8) -> Done
     ensures { DoesAsRuled (unless_closed rest.closed (role_of mode key) (state_in letters.old rest) (letter_of_key key)) letters.old result letters.new }
 {
     let count = rest.count as usize;
-    let role = role_in(rest.closed, mode, key);
-    match role {
+    match role_in(rest.closed, mode, key) {
         Role::ToneRole(tone) => tone_key(letters, rest, key, tone),
         Role::ShapeRole(shape) => {
-            let edit = edits::shape_edit(letters, count, shape);
+            let edit = edits::shape_edit(&mut letters[..count], shape);
             edit_does(letters, rest, key, edit)
         }
         Role::StrokeRole => {
-            let edit = edits::stroke_edit(letters, count);
+            let edit = edits::stroke_edit(&mut letters[..count]);
             edit_does(letters, rest, key, edit)
         }
         Role::NoRole => {
@@ -238,12 +230,13 @@ fn typed(lent: &mut [u8], letters: &mut [u16], mode: u8, n: Numbers, key: u8) ->
         closed: n.closed,
     };
     let done = key_does(letters, rest, mode, key);
-    let outcome = done.outcome;
-    let touched = done.touched;
-    let now = done.rest;
-    let at = n.typed as usize;
+    let Done {
+        outcome,
+        touched,
+        rest: now,
+    } = done;
     let count = n.count as usize;
-    lent[layout::AT_KEYS + at] = key;
+    lent[layout::AT_KEYS + n.typed as usize] = key;
     keeping::put_appender(
         &mut lent[layout::AT_APPENDED_BY..layout::AT_SHAPED_BY],
         count,
@@ -289,10 +282,7 @@ fn typed(lent: &mut [u8], letters: &mut [u16], mode: u8, n: Numbers, key: u8) ->
 fn refused(number: u8, value: usize) -> Result<Outcome, Refusal>
     ensures { result ≡ refused_with number value }
 {
-    Err(Refusal {
-        number: number,
-        value: value,
-    })
+    Err(Refusal { number, value })
 }
 
 // A key that is not taken: the word is full, or else its mode does not allow the key. One question leads here and not two: what stands

@@ -18,29 +18,26 @@ pub fn is_mode(mode: u8) -> bool
 pub fn is_small(key: u8) -> bool
     ensures { result ≡ is_small_of key }
 {
-    (b'a' <= key) & (key <= b'z')
+    key.is_ascii_lowercase()
 }
 
 fn is_capital(key: u8) -> bool
     ensures { result ≡ is_capital_of key }
 {
-    (b'A' <= key) & (key <= b'Z')
+    key.is_ascii_uppercase()
 }
 
 pub fn is_digit(key: u8) -> bool
     ensures { result ≡ is_digit_of key }
 {
-    (b'0' <= key) & (key <= b'9')
+    key.is_ascii_digit()
 }
 
 // Keys: a letter A-Z, a-z, in VNI also 0-9.
 pub fn is_key(mode: u8, key: u8) -> bool
     ensures { result ≡ is_key_of mode key }
 {
-    if is_small(key) {
-        return true;
-    }
-    is_capital(key) | ((mode == Word::VNI) & is_digit(key))
+    is_small(key) | is_capital(key) | ((mode == Word::VNI) & is_digit(key))
 }
 
 // A key appended is a plain letter in its own case.

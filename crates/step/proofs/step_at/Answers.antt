@@ -8,7 +8,6 @@ use Prim.Native.Nat.{ℕ}
 use native.Mathlib.Omega.{arith}
 use lib.ListN.{length}
 use lib.Seq.{length-take-le}
-use borrow.Author.Tests.{not-true, not-false}
 use Rattle.rules.specs.Refusals.{out_of_range}
 use Rattle.rules.proofs.StaysInRange.{Whole}
 use Rattle.layout.proofs.RoundTrips.{read_whole}

@@ -13,7 +13,7 @@ use lib.Seq.{take_at, drop_at, drop-cons, drop-drop, set_at}
 use Rattle.rules.specs.declared.Word.{Word}
 use Rattle.rules.proofs.StaysInRange.{Whole}
 use Rattle.layout.proofs.Pairs.{length_pairs}
-use Rattle.layout.specs.Places.{pairs, numbers, mark_byte, as_bytes, byte, part, is_long, is_mark, word_from, record_if, as_record, record_written_if, record_written, is_record, held, or_new}
+use Rattle.layout.specs.Places.{pairs, numbers, mark_byte, as_bytes, byte, part, is_long, is_mark, word_from, record_if, as_record, record_written_if, record_written, held, or_new}
 
 -- a record with another mark, other arrays and another place of the tone's key
 abbrev pub with_parts : Word → Bool → List ℕ → List ℕ → List ℕ → List ℕ → ℕ → Word

@@ -1,7 +1,7 @@
 // The word's record as 169 bytes at fixed places, as C lends it: no struct and no bool crosses.
 #![tactic(auto)]
 
-ghost use Rattle.std.specs.Prelude.{◌≡◌, ◌+◌, ◌*◌, ◌/◌, ◌%◌, length};
+ghost use Rattle.std.specs.Prelude.{◌≡◌, ◌+◌, ◌*◌, length};
 ghost use Rattle.layout.specs.Places.{pairs, numbers, is_long, as_record, held, record_written, letters_put};
 
 use rules::Word;

@@ -4,7 +4,7 @@
 ghost use Rattle.std.specs.Prelude.{◌≡◌};
 ghost use Rattle.output.specs.Front.{put};
 
-use rules::{Refusal};
+use rules::Refusal;
 
 // The text at the front of the output, and the rest of the output as it was. Refusals: 4 with the bytes needed; the output is then as it was.
 pub fn write(text: &[u8], out: &mut [u8]) -> Result<usize, Refusal>

@@ -2,7 +2,7 @@
 // A letter is one number, base + 256 · shape and 2048 more for a capital, which is passed over.
 #![tactic(auto)]
 
-ghost use Rattle.std.specs.Prelude.{◌≡◌, map, ◌+◌, ◌≤◌, length, drop};
+ghost use Rattle.std.specs.Prelude.{◌≡◌, map, ◌+◌, ◌≤◌, length};
 ghost use Rattle.rules.specs.TheWord.{letter};
 ghost use Rattle.rules.specs.TakingApart.{front, joins as joins_of};
 ghost use Rattle.rules.specs.TonePlace.{by_count as by_count_of, place_within as place_within_of, tone_place as tone_place_of};

@@ -1,5 +1,5 @@
 -- `commit::answer` meets its contract: the ruling's refusal, or none.
-use mathlib.Core.Path.{◌≡◌, sym, ap, ◌∙◌}
+use mathlib.Core.Path.{sym, ap, ◌∙◌}
 use Rattle.std.specs.Prelude.{Err}
 use Rattle.std.proofs.lemmas.Result.{err_from_is_err_and}
 use Rattle.commit.proofs.Parts.{refused_part, granted_part}

@@ -1,5 +1,5 @@
 -- `groups::in_front` meets its contract: each way out is one of the two tests.
-use mathlib.Core.Path.{sym, ap}
+use mathlib.Core.Path.{sym}
 use native.Mathlib.Numerals.{add-one}
 use native.Mathlib.Omega.{arith}
 use Rattle.groups.proofs.Fronts.{zero_behind, too_large, both_together}

@@ -1,5 +1,4 @@
 -- `layout::read` meets its contract: no record, or each part from its place.
-use mathlib.Core.Path.{◌∙◌}
 use Rattle.layout.proofs.Answers.{another_length, another_mark, all_read}
 use Rattle.layout.proofs.read.Goals as goal
 

@@ -1,5 +1,5 @@
 -- `targets::last_own` meets its contract: no letter behind the one found is wanted.
-use Rattle.std.proofs.Common.{rules, ◌∙◌}
+use Rattle.std.proofs.Common.{rules}
 use Rattle.std.proofs.iter.runs.Made.{chains}
 use Rattle.rules.specs.KeyRoles.{own}
 use Rattle.rules.proofs.Searches.{IsLastPlace}

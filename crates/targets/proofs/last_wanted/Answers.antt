@@ -1,5 +1,5 @@
 -- `targets::last_wanted` meets its contract: no letter behind the one found is wanted.
-use Rattle.std.proofs.Common.{rules, ◌∙◌}
+use Rattle.std.proofs.Common.{rules}
 use Rattle.std.proofs.iter.runs.Made.{chains}
 use Rattle.targets.specs.Places.{wanted}
 use Rattle.rules.proofs.Searches.{IsLastPlace}

@@ -1,5 +1,6 @@
 -- What each call says of bytes that are no record, and of a record; what it then returns, writes as its value and leaves in lent bytes.
 use Rattle.std.specs.Prelude.{Option, Some, None, Result, Ok, Err, ⊤, is_some}
+use Rattle.std.specs.Option.{unwrap_or, ok_or}
 use mathlib.Core.Path.{◌≡◌, refl, sym, ap, ap₂, ◌∙◌}
 use mathlib.Core.Bool.{Bool, true, false}
 use mathlib.Core.List.{List, [], ◌∷◌}
@@ -7,7 +8,7 @@ use Prim.Native.Nat.{ℕ}
 use native.Mathlib.Omega.{arith}
 use borrow.Author.Tests.{eq-eqb, ne_eqb}
 use lib.ListN.{length}
-use Rattle.rules.specs.AnswersInNumbers.{Says, refused, answered, refusing, decision_number, start_says, step_says, write_says, place_says, verdict_says, decision_says}
+use Rattle.rules.specs.AnswersInNumbers.{Says, refused, answered, refusing, place_numbers, decision_number, start_says, step_says, write_says}
 use Rattle.rules.specs.Refusals.{refusal}
 use Rattle.rules.specs.Decision.{decision}
 use Rattle.rules.specs.WhatComesBack as Rules
@@ -28,22 +29,29 @@ use Rattle.commit.specs.Rulings.{decided as ruled}
 use Rattle.commit.specs.declared.Ruling.{Ruling}
 use Rattle.commit.specs.declared.Ruling.TheVariants.{Keep, Restore}
 use Rattle.felcantuzza.specs.Calls as Calls
-use Rattle.felcantuzza.specs.Calls.{returned, value_by, in_one, did, unless_refused, of_record, shown_says, commit_or}
+use Rattle.felcantuzza.specs.Calls.{returned, value_by, number_by, only_one, placed, unless_refused, of_record, no_record, shown_says, commit_or}
 
-module _ (one : List ℕ → ℕ) (s : Says) {r v : ℕ} where
-  pub tells : (ns : List ℕ) → s ≡ answered ns → r ≡ 0 → v ≡ one ns → (r ≡ returned s) × (v ≡ value_by one s)
-  tells ns e p q = (p ∙ sym (ap returned e), q ∙ sym (ap (value_by one) e))
+-- a call returns what its answer's number or refusal is
+module _ (one : List ℕ → ℕ) where
+  code : (s : Says) → returned (write_says (number_by one s)) ≡ returned s
+  code (answered ns) = refl
+  code (refused n m) = refl
 
-  pub refuses : (n m : ℕ) → s ≡ refused n m → r ≡ n → v ≡ m → (r ≡ returned s) × (v ≡ value_by one s)
-  refuses n m e p q = (p ∙ sym (ap returned e), q ∙ sym (ap (value_by one) e))
+  value : (s : Says) → value_by only_one (write_says (number_by one s)) ≡ value_by one s
+  value (answered ns) = refl
+  value (refused n m) = refl
 
--- what the key did, of a call that also shows
-module _ (s : Says) where
-  pub outcome_told : (bytes : ℕ) (ns : List ℕ) → s ≡ answered (bytes ∷ ns) → in_one ns ≡ did s
-  outcome_told bytes ns e = sym (ap did e)
+  pub hands : (s : Says) {a : Result ℕ Refusal} {r v : ℕ} → a ≡ number_by one s → r ≡ returned (write_says a) → v ≡ value_by only_one (write_says a) → (r ≡ returned s) × (v ≡ value_by one s)
+  hands s e p q =
+      (p ∙ ap (λ (x : Result ℕ Refusal). returned (write_says x)) e ∙ code s, q ∙ ap (λ (x : Result ℕ Refusal). value_by only_one (write_says x)) e ∙ value s)
 
-  pub no_outcome : (n m : ℕ) → s ≡ refused n m → 0 ≡ did s
-  no_outcome n m e = sym (ap did e)
+pub its_number : (a : Result ℕ Refusal) → a ≡ number_by only_one (write_says a)
+its_number (Ok n) = refl
+its_number (Err x) = refl
+
+pub place_number : (p : Option ℕ) → unwrap_or p 255 ≡ placed (place_numbers p)
+place_number None = refl
+place_number (Some n) = refl
 
 module _ (s : Says) (new old : List ℕ) where
   pub changed : (ns : List ℕ) → s ≡ answered ns → new ≡ unless_refused s new old
@@ -58,7 +66,7 @@ refused_unchanged (answered ns) new old h = absurd (h refl)
 refused_unchanged (refused n m) new old h = refl
 
 module _ (mode : ℕ) (lent : List ℕ) where
-  pub no_room : (length lent ≡ 169 → ⊥) → Calls.start mode lent ≡ refused 8 0
+  pub no_room : (length lent ≡ 169 → ⊥) → Calls.start mode lent ≡ refusing no_record
   unfolding Calls.start
   no_room h = ap (λ (b : Bool). of_record b (start_says (Rules.start mode).answer)) (ne_eqb (length lent) 169 h)
 
@@ -104,71 +112,47 @@ module _ (lent : List ℕ) (key : ℕ) where
       go false e = ap step_says e
 
 -- calls on a record that is read from the lent bytes
-module _ (lent : List ℕ) (r : Option Word) (e : r ≡ as_record lent) where
-  none_said : {A : Type 0} (says : A → Says) (f : Word → A) → (is_some r) ≡ false → of_record (is_record lent) (says (f (held lent))) ≡ refused 8 0
-  none_said says f n = ap (λ (b : Bool). of_record b (says (f (held lent)))) (sym (ap (λ (x : Option Word). (is_some x)) e) ∙ n)
+module _ (lent : List ℕ) {a : Result Word Refusal} (e : a ≡ ok_or (as_record lent) no_record) where
+  pub no_word : {x : Refusal} → a ≡ Err x → (s : Says) → of_record (is_record lent) s ≡ refusing x
+  no_word {x} p s = go (as_record lent) (sym e ∙ p)
+    where
+      refused_as : Result Word Refusal → Says
+      refused_as (Ok w) = s
+      refused_as (Err r) = refusing r
 
-  said : {A : Type 0} (says : A → Says) (f : Word → A) → (is_some r) ≡ true → (a x : A) → a ≡ f (or_new r) → a ≡ x → of_record (is_record lent) (says (f (held lent))) ≡ says x
-  said says f t a x p q =
-      ap (λ (y : Option Word). of_record (is_some y) (says (f (or_new y)))) (sym e) ∙ ap (λ (b : Bool). of_record b (says (f (or_new r)))) t ∙ ap says (sym p ∙ q)
+      go : (o : Option Word) → ok_or o no_record ≡ Err x → of_record (is_some o) s ≡ refusing x
+      go None q = ap refused_as q
+      go (Some w) q = let z : ◌≡◌ {A = ℕ} 0 1 = cc in absurd (omega arith)
 
-  module _ (key : ℕ) (out : List ℕ) where
-    abbrev both : Word → Result (Outcome × ℕ) Refusal
-    both w = (step_and_show w key out).result.answer
+  module _ {w : Word} (p : a ≡ Ok w) where
+    pub a_word : (is_record lent ≡ true) × (w ≡ held lent)
+    a_word = go (as_record lent) (sym p ∙ e)
+      where
+        word : Result Word Refusal → Word
+        word (Ok v) = v
+        word (Err r) = w
 
-    pub none_typed_shown : (is_some r) ≡ false → Calls.type_and_show lent key out ≡ refused 8 0
-    unfolding Calls.type_and_show
-    none_typed_shown n = none_said shown_says both n
+        go : (o : Option Word) → Ok w ≡ ok_or o no_record → (is_some o ≡ true) × (w ≡ or_new o)
+        go None q = let z : ◌≡◌ {A = ℕ} 0 1 = cc in absurd (omega arith)
+        go (Some v) q = (refl, ap word q)
 
-    module _ (s : StepShown) (p : s ≡ (step_and_show (or_new r) key out).result) where
-      pub typed_shown : (is_some r) ≡ true → (a : Result (Outcome × ℕ) Refusal) → s.answer ≡ a → Calls.type_and_show lent key out ≡ shown_says a
-      unfolding Calls.type_and_show
-      typed_shown t a q = said shown_says both t s.answer a (ap (λ (x : StepShown). x.answer) p) q
+    pub said : {A : Type 0} (says : A → Says) (f : Word → A) {y : A} → y ≡ f w → says y ≡ of_record (is_record lent) (says (f (held lent)))
+    said says f q = ap says q ∙ ap₂ (λ (b : Bool) (v : Word). of_record b (says (f v))) (sym a_word.0) a_word.1
 
-      pub typed_shown_word : record_written s.word lent ≡ record_written (step_and_show (held lent) key out).result.word lent
-      typed_shown_word = ap (λ (x : StepShown). record_written x.word lent) (p ∙ ap (λ (y : Option Word). (step_and_show (or_new y) key out).result) e)
-
-    pub typed_shown_output : (step_and_show (or_new r) key out).output ≡ (step_and_show (held lent) key out).output
-    typed_shown_output = ap (λ (y : Option Word). (step_and_show (or_new y) key out).output) e
-
-  module _ (out : List ℕ) where
-    abbrev shows : Word → Result ℕ Refusal
-    shows w = (Rules.show w out).answer
-
-    pub none_shown : (is_some r) ≡ false → Calls.show lent out ≡ refused 8 0
+    pub shown_output : (out : List ℕ) → (Rules.show w out).output ≡ Calls.show_output lent out
     unfolding Calls.show
-    none_shown n = none_said write_says shows n
+    shown_output out = left (Rules.show w out).answer refl ∙ ap₂ (λ (b : Bool) (v : Word). unless_refused (of_record b (write_says (Rules.show v out).answer)) (Rules.show v out).output out) (sym a_word.0) a_word.1
+      where
+        left : (r : Result ℕ Refusal) → (Rules.show w out).answer ≡ r → (Rules.show w out).output ≡ unless_refused (write_says (Rules.show w out).answer) (Rules.show w out).output out
+        left (Ok n) q = sym (ap (λ (r : Result ℕ Refusal). unless_refused (write_says r) (Rules.show w out).output out) q)
+        left (Err x) q = refused_show w out x (ap write_says q) ∙ sym (ap (λ (r : Result ℕ Refusal). unless_refused (write_says r) (Rules.show w out).output out) q)
 
-    pub shown : (is_some r) ≡ true → (a x : Result ℕ Refusal) → a ≡ (Rules.show (or_new r) out).answer → a ≡ x → Calls.show lent out ≡ write_says x
-    unfolding Calls.show
-    shown t a x p q = said write_says shows t a x p q
-
-    pub shown_output : (Rules.show (or_new r) out).output ≡ (Rules.show (held lent) out).output
-    shown_output = ap (λ (y : Option Word). (Rules.show (or_new y) out).output) e
-
-  pub none_judged : (is_some r) ≡ false → Calls.verdict lent ≡ refused 8 0
-  unfolding Calls.verdict
-  none_judged n = none_said verdict_says Rules.verdict_answer n
-
-  pub judged : (is_some r) ≡ true → (a x : Result ℕ Refusal) → a ≡ Rules.verdict_answer (or_new r) → a ≡ x → Calls.verdict lent ≡ verdict_says x
-  unfolding Calls.verdict
-  judged t a x p q = said verdict_says Rules.verdict_answer t a x p q
-
-  pub none_placed : (is_some r) ≡ false → Calls.place lent ≡ refused 8 0
-  unfolding Calls.place
-  none_placed n = none_said place_says Rules.place_answer n
-
-  pub placed : (is_some r) ≡ true → (a x : Result (Option ℕ) Refusal) → a ≡ Rules.place_answer (or_new r) → a ≡ x → Calls.place lent ≡ place_says x
-  unfolding Calls.place
-  placed t a x p q = said place_says Rules.place_answer t a x p q
-
-  pub none_decided : (is_some r) ≡ false → Calls.decision lent ≡ refused 8 0
-  unfolding Calls.decision
-  none_decided n = none_said decision_says Rules.decision_answer n
-
-  pub decided : (is_some r) ≡ true → (a x : Result Decision Refusal) → a ≡ Rules.decision_answer (or_new r) → a ≡ x → Calls.decision lent ≡ decision_says x
-  unfolding Calls.decision
-  decided t a x p q = said decision_says Rules.decision_answer t a x p q
+-- typing and showing a record
+module _ (lent : List ℕ) (key : ℕ) (out : List ℕ) (t : is_record lent ≡ true) where
+  pub typed_shown : (s : StepShown) → s ≡ (step_and_show (held lent) key out).result → {y : Result (Outcome × ℕ) Refusal} → s.answer ≡ y → Calls.type_and_show lent key out ≡ shown_says y
+  unfolding Calls.type_and_show
+  typed_shown s p q =
+      ap (λ (b : Bool). of_record b (shown_says (step_and_show (held lent) key out).result.answer)) t ∙ ap shown_says (sym (ap (λ (x : StepShown). x.answer) p) ∙ q)
 
 -- typing and showing that is refused leaves the output
 pub refused_both : (w : Word) (key : ℕ) (out : List ℕ) (x : Refusal) → (step_and_show w key out).result.answer ≡ Err x → (step_and_show w key out).output ≡ out
@@ -202,6 +186,6 @@ committed mode keys text a x p q = go (refusal (Rules.commit_call mode keys text
     go (Some y) = refl
 
 -- the speller
-pub spelled : (mode : ℕ) (text out : List ℕ) (a x : Result ℕ Refusal) → a ≡ (Rules.spell mode text out).answer → a ≡ x → Calls.spell mode text out ≡ write_says x
+pub spelled : (mode : ℕ) (text out : List ℕ) {a : Result ℕ Refusal} → a ≡ (Rules.spell mode text out).answer → a ≡ number_by only_one (Calls.spell mode text out)
 unfolding Calls.spell
-spelled mode text out a x p q = ap write_says (sym p ∙ q)
+spelled mode text out p = p ∙ its_number (Rules.spell mode text out).answer

@@ -19,7 +19,8 @@ use Rattle.recording.specs.declared.Stepped.{Stepped}
 use Rattle.recording.proofs.Meets.{Meets, the_end, a_refusal, a_press, meets}
 use Rattle.replay.specs.Replays.{words_from, of_words, of_recorded, replayed}
 use Rattle.replay.specs.declared.ReplayAnswer.{ReplayAnswer}
-use Rattle.felcantuzza.specs.Calls.{returned}
+use Rattle.felcantuzza.specs.Calls.{returned, number_by, only_one, unless_refused}
+use Rattle.felcantuzza.proofs.CallAnswers.{its_number}
 use Rattle.felcantuzza.specs.Recordings as Recordings
 use Rattle.felcantuzza.specs.Recordings.{begin_says, place_after, press_says, so_far, seven_numbers}
 use Rattle.recording.specs.declared.Begun.{Begun}
@@ -46,14 +47,21 @@ module _ (mode : ℕ) (xs : List KeyPress) (out : List ℕ) (x : Refusal) where
   by_mode true = λ e. refl
   by_mode false = by_press (none_yet mode) 0 xs
 
-module _ (mode : ℕ) (presses out : List ℕ) {a : Result ℕ Refusal} (p : a ≡ (written_drill mode presses out).answer) where
-  pub written : {x : Result ℕ Refusal} → a ≡ x → Recordings.record_drill mode presses out ≡ write_says x
+module _ (mode : ℕ) (presses out : List ℕ) where
+  pub written : {a : Result ℕ Refusal} → a ≡ (written_drill mode presses out).answer → a ≡ number_by only_one (Recordings.record_drill mode presses out)
   unfolding Recordings.record_drill
-  written q = ap write_says (sym p ∙ q)
+  written p = p ∙ its_number (written_drill mode presses out).answer
 
-  pub refused_record : (x : Refusal) → a ≡ Err x → (written_drill mode presses out).output ≡ out
-  unfolding written_drill
-  refused_record x q = by_mode mode (map press_in presses) out x (wrong_mode mode) (sym p ∙ q)
+  pub output_left : (written_drill mode presses out).output ≡ Recordings.record_output mode presses out
+  unfolding written_drill Recordings.record_drill
+  output_left = go (written_drill mode presses out).answer refl
+    where
+      left : Result ℕ Refusal → List ℕ
+      left a = unless_refused (write_says a) (written_drill mode presses out).output out
+
+      go : (a : Result ℕ Refusal) → (written_drill mode presses out).answer ≡ a → (written_drill mode presses out).output ≡ left (written_drill mode presses out).answer
+      go (Ok n) q = sym (ap left q)
+      go (Err x) q = by_mode mode (map press_in presses) out x (wrong_mode mode) q ∙ sym (ap left q)
 
 module _ (s : List ℕ) {a x : Result Begun Refusal} (p : a ≡ Reading.begin s) (q : a ≡ x) where
   pub begun : Recordings.begin s ≡ begin_says x
@@ -88,9 +96,9 @@ module _ (s : List ℕ) (mode at n ms : ℕ) where
       go (a_press x next c l i b) h = absurd (h refl)
 
   module _ {t : Stepped} (p : t ≡ step_at s at (so_far mode n ms)) where
-    pub stepped : {x : Result (Option KeyPress) Refusal} → t.press ≡ x → Recordings.next s mode at n ms ≡ press_says x
+    pub stepped : Recordings.next s mode at n ms ≡ press_says t.press
     unfolding Recordings.next
-    stepped q = ap press_says (sym (ap (λ (y : Stepped). y.press) p) ∙ q)
+    stepped = ap press_says (sym (ap (λ (y : Stepped). y.press) p))
 
     pub moved : Leads t (Recordings.next_at s mode at n ms) (Recordings.next_in_word s mode at n ms) (Recordings.next_milliseconds s mode at n ms)
     moved = (ap (λ (y : Stepped). y.at) p, ap (λ (y : Stepped). y.progress.in_word) p, ap (λ (y : Stepped). y.progress.milliseconds) p)

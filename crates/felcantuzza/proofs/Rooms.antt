@@ -1,5 +1,5 @@
 -- A key typed where the lent bytes lie, and the text of the new word made in an output with room for any: what typing and showing comes to.
-use Rattle.std.specs.Prelude.{Ok, Option}
+use Rattle.std.specs.Prelude.{Ok, Option, Some}
 use mathlib.Core.Path.{◌≡◌, refl, sym, ap, ap₂, ◌∙◌}
 use mathlib.Core.List.{List}
 use Prim.Native.Nat.{ℕ, ◌-◌, ◌≤◌}
@@ -30,29 +30,32 @@ module _ (lent : List ℕ) (key : ℕ) (out : List ℕ) {o : Outcome} (d : (step
   so : Then w key out (step w key) refl o
   so = did_so w key out (step w key) refl (read_whole lent) o (was_done lent key d)
 
-  module _ {now : List ℕ} (e : now ≡ (step_at lent key).bytes) {r : Option Word} (p : r ≡ as_record now) {letters : List ℕ} (q : letters ≡ (held now).letters) where
-    word_read : (or_new r) ≡ new
-    word_read = ap (λ (x : Option Word). (or_new x)) (p ∙ ap as_record e ∙ now_held lent key d)
+  module _ {now : List ℕ} (e : now ≡ (step_at lent key).bytes) {r : Option Word} (p : r ≡ as_record now) {v : Word} (s : r ≡ Some v) {letters : List ℕ} (q : letters ≡ (held now).letters) where
+    word_read : v ≡ new
+    word_read = ap or_new (sym s ∙ p ∙ ap as_record e ∙ now_held lent key d)
 
     letters_read : letters ≡ new.letters
     letters_read = q ∙ ap (λ (x : Option Word). (or_new x).letters) (ap as_record e ∙ now_held lent key d)
 
-    pub within : (or_new r).count ≤ length letters
+    pub within : v.count ≤ length letters
     within =
-        let counts = ap (λ (v : Word). v.count) word_read in
+        let counts = ap (λ (x : Word). x.count) word_read in
         let long = ap (λ (l : List ℕ). length l) letters_read in
         omega (arith, counts, long, few_letters new so.range, so.long)
 
     abbrev text_of : Word → List ℕ → List ℕ
-    text_of v l = room_text (take (v.count - 0) l) v.tone out
+    text_of x l = room_text (take x.count l) x.tone out
 
-    same_text : text_of (or_new r) letters ≡ text_of new new.letters
-    same_text = ap₂ text_of word_read letters_read
+    no_less : new.count ≡ new.count - 0
+    no_less = omega arith
+
+    same_text : text_of v letters ≡ room_text (take (new.count - 0) new.letters) new.tone out
+    same_text = ap₂ text_of word_read letters_read ∙ ap (λ (n : ℕ). room_text (take n new.letters) new.tone out) no_less
 
     few : length (take (new.count - 0) new.letters) ≤ most_keys
     few = simp length-take (omega (arith, few_letters new so.range))
 
-    pub with_room : {n : ℕ} {after : List ℕ} → most_bytes ≤ length out → n ≡ length (text_of (or_new r) letters) → after ≡ at_front (text_of (or_new r) letters) out →
+    pub with_room : {n : ℕ} {after : List ℕ} → most_bytes ≤ length out → n ≡ length (text_of v letters) → after ≡ at_front (text_of v letters) out →
         (record { answer = Ok (o, n); word = new } ≡ (step_and_show w key out).result) × (after ≡ (step_and_show w key out).output)
     with_room {n} {after} h many b =
         let t = made_there (take (new.count - 0) new.letters) new.tone out few n h (many ∙ ap (λ (l : List ℕ). length l) same_text) after (b ∙ ap (λ (l : List ℕ). at_front l out) same_text) in

@@ -20,6 +20,11 @@ abbrev pub value_by : (List ℕ → ℕ) → Says → ℕ
 value_by one (answered ns) = one ns
 value_by one (refused n v) = v
 
+-- an answer with one number, or the refusal
+abbrev pub number_by : (List ℕ → ℕ) → Says → Result ℕ Refusal
+number_by one (answered ns) = Ok (one ns)
+number_by one (refused n v) = Err (record { number = n; value = v })
+
 -- 16 times the kind of what a key did, and the tone or the shape
 abbrev pub in_one : List ℕ → ℕ
 in_one [] = 0
@@ -45,6 +50,10 @@ unless_refused (refused n v) new old = old
 abbrev pub of_record : Bool → Says → Says
 of_record true s = s
 of_record false s = refused 8 0
+
+-- the refusal of bytes that are no record
+abbrev pub no_record : Refusal
+no_record = record { number = 8; value = 0 }
 
 unfoldable pub start : ℕ → List ℕ → Says
 start mode lent = of_record (is_long lent) (start_says (Rules.start mode).answer)

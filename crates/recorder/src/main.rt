@@ -8,7 +8,7 @@ ghost use Rattle.recorder.specs.declared.TheConstants.{MOST};
 
 use messages::{say, say_fault, say_refused};
 use recording::SPACE;
-use rules::{Word};
+use rules::Word;
 use std::io::{ErrorKind, Read};
 use std::process::ExitCode;
 

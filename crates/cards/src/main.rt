@@ -36,7 +36,7 @@ fn put_texts(rt: &HostRuntime, mode: u8, keys: &[u8], w: Word) -> io::Result<()>
     let Ok(n) = show::show(w, &mut shown) else {
         return put(rt, b"!");
     };
-    let text = &shown[0..n];
+    let text = &shown[..n];
     put_text(rt, text)?;
     put(rt, b" ")?;
     put_text(rt, commit::commit(mode, keys, text))
@@ -50,13 +50,11 @@ fn put_verdict(rt: &HostRuntime, w: Word) -> io::Result<()> {
 }
 
 fn put_place(rt: &HostRuntime, w: Word) -> io::Result<()> {
-    let Ok(place) = word::place(w) else {
-        return put(rt, b"!");
-    };
-    let Some(n) = place else {
-        return put(rt, b" -");
-    };
-    put_number(rt, n)
+    match word::place(w) {
+        Ok(Some(n)) => put_number(rt, n),
+        Ok(None) => put(rt, b" -"),
+        Err(_) => put(rt, b"!"),
+    }
 }
 
 fn put_decision(rt: &HostRuntime, w: Word) -> io::Result<()> {
@@ -98,9 +96,7 @@ fn stepped(mode: u8, keys: &[u8]) -> Word {
 }
 
 fn answer(rt: &HostRuntime, mode: u8, keys: &[u8]) -> io::Result<()> {
-    let all = word::type_all(mode, keys);
-    let typed = all.answer;
-    if let Err(r) = typed {
+    if let Err(r) = word::type_all(mode, keys).answer {
         return put_refused(rt, r.number, r.value);
     }
     put_word(rt, mode, keys, stepped(mode, keys))

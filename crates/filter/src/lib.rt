@@ -87,7 +87,7 @@ fn end(rt: &HostRuntime, state: Begun, out: &mut [u8]) -> io::Result<()> {
     let Ok(n) = stream::finish(state, out) else {
         return Ok(());
     };
-    written(rt, program, &out[0..n])
+    written(rt, program, &out[..n])
 }
 
 // Nothing says that the input ends, so the loop counts its turns, to a number that no run uses up.
@@ -111,7 +111,7 @@ fn answer_all(rt: &HostRuntime, program: Program) -> io::Result<()> {
     let Ok(n) = stream::header(program, &mut out) else {
         return Ok(());
     };
-    written(rt, program, &out[0..n])?;
+    written(rt, program, &out[..n])?;
     passes(rt, program, &mut block, &mut out)
 }
 

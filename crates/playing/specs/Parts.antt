@@ -27,7 +27,7 @@ pub data Enough (at : ℕ) (v rest : List ℕ) : Type 0 where
 -- A step's places, counted from the start of the recording and not of the part.
 abbrev pub press_later : ℕ → Result (Option KeyPress) Refusal → Result (Option KeyPress) Refusal
 press_later start (Ok (Some x)) = Ok (Some x)
-press_later start (Ok None) = (Ok None)
+press_later start (Ok None) = Ok None
 press_later start (Err r) = Err (refused_for r.number (start + r.value))
 
 abbrev pub later : ℕ → Stepped → Stepped

@@ -5,7 +5,8 @@ ghost use Rattle.recording.specs.Recordings.{step_at, begin as begin_of};
 ghost use Rattle.playing.specs.Parts.{IsPart, Enough, ReadOn, shown_in, short, later};
 
 use crate::say;
-use recording::{Progress, Stepped};
+use recording::{Begun, Progress, Stepped};
+use rules::Refusal;
 use std::io::Read;
 
 // A step is two numbers, each of at most five bytes.
@@ -27,7 +28,7 @@ impl Window {
         ensures { (s rest : List ℕ) → IsPart s 0 (shown_in self block.now) rest → Enough 0 (shown_in self block.now) rest → begin_of s ≡ result }
     {
         let n = self.end.min(block.len());
-        recording::begin(&block[0..n])
+        recording::begin(&block[..n])
     }
 
     // The next step. Where the block shows a part of a recording with enough bytes for a step, it is the step of the whole recording there.
@@ -35,7 +36,7 @@ impl Window {
         ensures { (s rest : List ℕ) → IsPart s self.start (shown_in self block.now) rest → Enough self.at (shown_in self block.now) rest → step_at s (self.start + self.at) progress ≡ later self.start result }
     {
         let n = self.end.min(block.len());
-        recording::step_at(&block[0..n], self.at, progress)
+        recording::step_at(&block[..n], self.at, progress)
     }
 
     // Fewer bytes than a step can have, and more of them may come.

@@ -117,7 +117,7 @@ impl Output<'_> {
         let Ok(n) = show::show(w, &mut text) else {
             return;
         };
-        self.put(&text[0..n]);
+        self.put(&text[..n]);
         self.put(b"\n");
     }
 

@@ -5,7 +5,7 @@
 use blocks::Window;
 use columns::Output;
 use recording::{KeyPress, Progress, SPACE};
-use replay::{WordDone};
+use replay::WordDone;
 use rules::{Decision, Refusal, Word};
 use std::process::ExitCode;
 
@@ -85,13 +85,11 @@ impl Play<'_> {
     fn commit(&mut self) {
         let n = self.progress.in_word.min(Word::KEYS);
         let mut line = [0; replay::LINE];
-        let answer = replay::commit_word(self.progress.mode, &self.keys[..n], &mut line);
-        let Ok(done) = answer else {
+        let Ok(done) = replay::commit_word(self.progress.mode, &self.keys[..n], &mut line) else {
             return;
         };
-        let bytes = done.bytes;
         self.out
-            .put_committed(self.with_keys, done.decision, &line[0..bytes]);
+            .put_committed(self.with_keys, done.decision, &line[..done.bytes]);
         self.totals.add(done);
     }
 
@@ -105,16 +103,16 @@ impl Play<'_> {
 
     // A key typed into the word that has begun, and its line. The word takes the key: the step asked that of the recording.
     fn type_key(&mut self, x: KeyPress) {
-        let answer = step::step_at(&mut self.word, x.key);
-        let Ok(outcome) = answer else {
+        let Ok(outcome) = step::step_at(&mut self.word, x.key) else {
             return;
         };
         self.out.put_column(x.milliseconds as u64);
         self.out.put(&[x.key]);
         self.out.put(b" ");
         self.out.put_outcome(outcome);
-        let reading = layout::read(&self.word);
-        self.out.put_shown(reading.word);
+        if let Some(w) = layout::read(&self.word) {
+            self.out.put_shown(w);
+        }
     }
 
     // A key that is no space: kept for the word's end, and with keys typed at once.
@@ -157,8 +155,7 @@ impl Play<'_> {
     }
 
     fn begin(&mut self) -> Next {
-        let answer = self.window.first_mode(&self.block);
-        match answer {
+        match self.window.first_mode(&self.block) {
             Ok(b) => self.go_on(b.at, b.progress),
             Err(r) => self.refuse(r),
         }
@@ -166,8 +163,7 @@ impl Play<'_> {
 
     fn step(&mut self) -> Next {
         let s = self.window.next_step(&self.block, self.progress);
-        let press = s.press;
-        match press {
+        match s.press {
             Ok(Some(x)) => {
                 if x.key == SPACE {
                     self.space(x.milliseconds);

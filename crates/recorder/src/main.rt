@@ -8,7 +8,7 @@ ghost use Rattle.recorder.specs.declared.TheConstants.{MOST};
 
 use messages::{say, say_fault, say_refused};
 use recording::SPACE;
-use rules::{Word};
+use rules::Word;
 use std::io::{ErrorKind, Read};
 use std::process::ExitCode;
 
@@ -194,10 +194,9 @@ fn read_all(rt: &HostRuntime, drill: &mut Drill) -> bool {
 // The recording, written; a failure where it could not be. Nothing is said of it where nobody reads any more.
 fn write(rt: &HostRuntime, drill: &Drill) -> ExitCode {
     let mut out = [0; ROOM];
-    let answer = recording::write(drill.mode, &drill.presses[..drill.count], &mut out);
-    match answer {
+    match recording::write(drill.mode, &drill.presses[..drill.count], &mut out) {
         Ok(written) => {
-            let Err(e) = rt.stdout().write_all(&out[0..written]) else {
+            let Err(e) = rt.stdout().write_all(&out[..written]) else {
                 return ExitCode::SUCCESS;
             };
             if e.kind() != ErrorKind::BrokenPipe {

@@ -9,7 +9,7 @@ ghost use Rattle.rules.specs.Decision.{handed_back as handed_back_of};
 ghost use Rattle.rules.specs.Refusals.{out_of_range};
 ghost use Rattle.rules.specs.Drill.{decision_column, columns, word_columns as word_columns_of, keys_line as keys_line_of, mode_of, key_columns as key_columns_of};
 ghost use Rattle.lines.specs.Appending.{Appends, ended_by, most_in_line};
-ghost use Rattle.lines.specs.Programs.{word_line_of, six_end as six_end_of, answer_of, line_answer};
+ghost use Rattle.lines.specs.Programs.{word_line_of, six_end as six_end_of, line_answer};
 
 use line::{Line, NEWLINE, SPACE};
 use rules::{Decision, Refusal, Word};

@@ -16,7 +16,6 @@ use Rattle.rules.specs.TheWord.{most_bytes, letter, number}
 use Rattle.rules.specs.CodePoints.{Sign, sign, point, utf8}
 use Rattle.rules.specs.Speller.{Front, no_letter, a_letter, letter_at, stuck_at, reading, and_then, more_bytes, go_on, read_from, read, letters_in}
 use Rattle.rules.specs.Speller as Paper
-use Rattle.letters.specs.declared.LetterRead.{LetterRead}
 use Rattle.letters.specs.Alphabet.{same_sign}
 use Rattle.letters.specs.Decoding.{decoded}
 use Rattle.letters.specs.LettersRead.{read_of, read_at}

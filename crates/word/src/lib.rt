@@ -7,7 +7,7 @@ ghost use Rattle.rules.specs.Decision.{starts_with_đ};
 ghost use Rattle.word.specs.Refusing.{refused_typing};
 ghost use Rattle.word.specs.Deciding.{decided_by};
 ghost use Rattle.rules.specs.KeyRoles.{is_key};
-ghost use Rattle.rules.specs.Refusals.{all, is_mode as is_mode_of, allowed_before as allowed_before_of};
+ghost use Rattle.rules.specs.Refusals.{all, is_mode as is_mode_of};
 ghost use Rattle.rules.specs.WhatComesBack.{start as start_of, typed, type_all as type_all_of, place_answer, verdict_answer, decision_answer};
 
 use rules::{Decision, Refusal, STROKE, Start, TypeAll, Word};

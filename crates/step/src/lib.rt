@@ -227,12 +227,11 @@ fn typed(lent: &mut [u8], letters: &mut [u16], mode: u8, n: Numbers, key: u8) ->
         tone: n.tone,
         closed: n.closed,
     };
-    let done = key_does(letters, rest, mode, key);
     let Done {
         outcome,
         touched,
         rest: now,
-    } = done;
+    } = key_does(letters, rest, mode, key);
     let count = n.count as usize;
     lent[layout::AT_KEYS + n.typed as usize] = key;
     keeping::put_appender(

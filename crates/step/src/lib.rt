@@ -123,17 +123,15 @@ fn edit_does(letters: &mut [u16], rest: Rest, key: u8, edit: Edit) -> Done
     requires { RoomForLetter letters.old rest.count × NoSecondHorn key }
     ensures { DoesAsRuled (after_edit edit (state_in letters.old rest) (letter_of_key key)) letters.old result letters.new }
 {
-    if let Edit::Off(touched) = edit {
-        return undone(letters, rest, key, touched);
-    }
-    if let Edit::Change(act, touched) = edit {
-        return Done {
+    match edit {
+        Edit::Off(touched) => undone(letters, rest, key, touched),
+        Edit::Change(act, touched) => Done {
             outcome: Outcome::Acted(act),
             touched,
             rest,
-        };
+        },
+        Edit::Nothing => appended(letters, rest, key, Touched::NoLetter),
     }
-    appended(letters, rest, key, Touched::NoLetter)
 }
 
 // In a closed word no key has a role.
@@ -229,12 +227,11 @@ fn typed(lent: &mut [u8], letters: &mut [u16], mode: u8, n: Numbers, key: u8) ->
         tone: n.tone,
         closed: n.closed,
     };
-    let done = key_does(letters, rest, mode, key);
     let Done {
         outcome,
         touched,
         rest: now,
-    } = done;
+    } = key_does(letters, rest, mode, key);
     let count = n.count as usize;
     lent[layout::AT_KEYS + n.typed as usize] = key;
     keeping::put_appender(

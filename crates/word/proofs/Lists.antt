@@ -20,7 +20,7 @@ use Rattle.rules.specs.WhatComesBack.{start, step, typed}
 use Rattle.rules.specs.declared.Word.{Word}
 use Rattle.rules.proofs.StaysInRange.{Whole}
 use Rattle.rules.proofs.Typing.{Held, of_modes, new_held, kept_mode, kept_keys, type_append, list_held, steps}
-use Rattle.layout.specs.Places.{as_bytes, as_record, held, or_new}
+use Rattle.layout.specs.Places.{as_bytes, as_record}
 use Rattle.layout.proofs.InPlace.{long_word}
 use Rattle.layout.proofs.RoundTrips.{written_read}
 use Rattle.step.specs.InPlace.{step_at}

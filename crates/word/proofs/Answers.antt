@@ -1,13 +1,13 @@
 -- The answers by their tests: typing a list, and the three questions on a word.
-use Rattle.std.specs.Prelude.{Ok, Err}
+use Rattle.std.specs.Prelude.{Result, Ok, Err}
 use mathlib.Core.Path.{◌≡◌, refl, sym, ap}
-use mathlib.Core.Bool.{true, false, not, ◌&&◌}
+use mathlib.Core.Bool.{Bool, true, false, not, ◌&&◌}
 use mathlib.Core.List.{List, [], ◌∷◌, map}
-use Prim.Native.Nat.{ℕ, ◌+◌, ◌-◌, ◌/◌, ◌%◌, ◌≤◌, ◌<◌}
+use Prim.Native.Nat.{ℕ, ◌+◌, ◌/◌, ◌%◌, ◌≤◌, ◌<◌}
 use Prim.Native.Char.{code}
 use native.Mathlib.Omega.{arith}
 use lib.Dec.{T, eqb}
-use lib.ListN.{length, take, drop, get_or}
+use lib.ListN.{length, take, get_or}
 use borrow.Author.Tests.{lt-ltb, le-ltb}
 use Rattle.rules.specs.Letters.{Letters, stroke}
 use Rattle.rules.specs.TheWord.{most_keys, letter, new_word, holding}
@@ -17,9 +17,10 @@ use Rattle.rules.specs.TonePlace.{tone_place}
 use Rattle.rules.specs.Decision.{keeps, starts_with_đ}
 use Rattle.rules.specs.Refusals.{all, is_mode, allowed_before, out_of_range, refusal}
 use Rattle.rules.specs.WhatComesBack.{typed, type_all, place_answer, verdict_answer, decision_answer}
+use Rattle.rules.specs.declared.Refusal.{Refusal}
 use Rattle.rules.specs.declared.Word.{Word}
 use Rattle.rules.proofs.Tests.{is_true}
-use Rattle.word.specs.Refusing.{refused_typing}
+use Rattle.word.specs.Refusing.{refused_typing, range_answer}
 use Rattle.word.specs.Deciding.{decided_by}
 
 -- the first letter of a slice of numbers
@@ -49,21 +50,43 @@ module _ (m : ℕ) (ks : List ℕ) where
   unfolding type_all refusal
   all_typed e h t = let n : all (is_key m) ks ≡ true = is_true (all (is_key m) ks) t in simp (e, le-ltb most_keys (0 + length ks) (omega arith), n)
 
--- the part from 0 on is the front
+-- the letters of a word, of the numbers that hold them
 abbrev pub part : List ℕ → ℕ → Letters
-part l n = map letter (take (n - 0) (drop 0 l))
+part l n = map letter (take n l)
 
-is_front : (l : List ℕ) (n : ℕ) → part l n ≡ map letter (take n l)
-is_front l n = let e : n - 0 ≡ n = omega arith in ap (λ (m : ℕ). map letter (take m l)) e
+-- a word that is refused is out of range, and any other is not
+abbrev told : Bool → Result (Unit {0}) Refusal
+told b = elim b [ true ↦ Err (record { number = 8; value = 0 }) | false ↦ Ok tt ]
+
+abbrev why : Result (Unit {0}) Refusal → Refusal
+why (Ok u) = record { number = 0; value = 0 }
+why (Err r) = r
+
+no_refusal : {r : Refusal} → told false ≡ Err r → ⊥
+no_refusal e = let z : ◌≡◌ {A = ℕ} 0 1 = ap (λ (x : Result (Unit {0}) Refusal). elim x [ Ok u ↦ 0 | Err r ↦ 1 ]) e in omega arith
+
+refused_told : (b : Bool) (r : Refusal) → told b ≡ Err r → (b ≡ true) × (r ≡ record { number = 8; value = 0 })
+refused_told true r e = (refl, sym (ap why e))
+refused_told false r e = absurd (no_refusal e)
+
+granted_told : (b : Bool) (u : Unit {0}) → told b ≡ Ok u → b ≡ false
+granted_told true u e = let z : ◌≡◌ {A = ℕ} 1 0 = ap (λ (x : Result (Unit {0}) Refusal). elim x [ Ok v ↦ 0 | Err r ↦ 1 ]) e in absurd (omega arith)
+granted_told false u e = refl
 
 module _ (w : Word) where
+  pub without : (r : Refusal) → range_answer w ≡ Err r → (out_of_range w ≡ true) × (r ≡ record { number = 8; value = 0 })
+  without r e = refused_told (out_of_range w) r e
+
+  pub within : (u : Unit {0}) → range_answer w ≡ Ok u → out_of_range w ≡ false
+  within u e = granted_told (out_of_range w) u e
+
   pub place_refused : out_of_range w ≡ true → place_answer w ≡ Err (record { number = 8; value = 0 })
   unfolding place_answer refusal
   place_refused e = simp e
 
   pub place_found : out_of_range w ≡ false → place_answer w ≡ Ok (tone_place (part w.letters w.count) w.tone)
   unfolding place_answer refusal
-  place_found e = simp e (ap (λ (v : Letters). Ok (tone_place v w.tone)) (sym (is_front w.letters w.count)))
+  place_found e = simp e refl
 
   pub verdict_refused : out_of_range w ≡ true → verdict_answer w ≡ Err (record { number = 8; value = 0 })
   unfolding verdict_answer refusal
@@ -71,7 +94,7 @@ module _ (w : Word) where
 
   pub verdict_judged : out_of_range w ≡ false → verdict_answer w ≡ Ok (verdict (part w.letters w.count) w.tone)
   unfolding verdict_answer refusal
-  verdict_judged e = simp e (ap (λ (v : Letters). Ok (verdict v w.tone)) (sym (is_front w.letters w.count)))
+  verdict_judged e = simp e refl
 
   pub decision_refused : out_of_range w ≡ true → decision_answer w ≡ Err (record { number = 8; value = 0 })
   unfolding decision_answer refusal
@@ -79,4 +102,4 @@ module _ (w : Word) where
 
   pub decided : out_of_range w ≡ false → decision_answer w ≡ Ok (decided_by (eqb w.acted 0 && eqb w.undone 0) w.closed (part w.letters w.count) (verdict (part w.letters w.count) w.tone))
   unfolding decision_answer refusal keeps
-  decided e = simp e (ap (λ (v : Letters). Ok (decided_by (eqb w.acted 0 && eqb w.undone 0) w.closed v (verdict v w.tone))) (sym (is_front w.letters w.count)))
+  decided e = simp e refl

@@ -4,7 +4,7 @@
 ghost use Rattle.std.specs.Prelude.{◌≡◌, ◌≤◌, T, length, map, position, not};
 ghost use Rattle.rules.specs.TheWord.{letter, new_word, holding};
 ghost use Rattle.rules.specs.Decision.{starts_with_đ};
-ghost use Rattle.word.specs.Refusing.{refused_typing};
+ghost use Rattle.word.specs.Refusing.{refused_typing, range_answer};
 ghost use Rattle.word.specs.Deciding.{decided_by};
 ghost use Rattle.rules.specs.KeyRoles.{is_key};
 ghost use Rattle.rules.specs.Refusals.{all, is_mode as is_mode_of};
@@ -16,32 +16,25 @@ use rules::{Decision, Refusal, STROKE, Start, TypeAll, Word};
 pub fn start(mode: u8) -> Start
     ensures { result ≡ start_of mode }
 {
-    if mode == Word::TELEX {
-        return Start {
-            answer: Ok(()),
-            word: Word::telex(),
-        };
-    }
-    if mode == Word::VNI {
-        return Start {
-            answer: Ok(()),
-            word: Word::vni(),
-        };
-    }
-    Start {
-        answer: Err(Refusal {
-            number: 1,
-            value: 0,
-        }),
-        word: Word::telex(),
-    }
+    let (answer, word) = match mode {
+        Word::TELEX => (Ok(()), Word::telex()),
+        Word::VNI => (Ok(()), Word::vni()),
+        _ => (
+            Err(Refusal {
+                number: 1,
+                value: 0,
+            }),
+            Word::telex(),
+        ),
+    };
+    Start { answer, word }
 }
 
 // The place of the first key that the mode does not allow.
 fn first_wrong(mode: u8, keys: &[u8]) -> Option<usize>
     ensures { result ≡ position (λ key. not (is_key mode key)) keys.now }
 {
-    keys.iter().position(|key| !keys::is_key(mode, *key))
+    keys.iter().position(|&key| !keys::is_key(mode, key))
 }
 
 // Allowed keys, few enough, typed one after the other into the bytes of a new word, of which the record is put together once, at the end.
@@ -63,10 +56,7 @@ fn refused(number: u8, value: usize) -> TypeAll
     ensures { result ≡ refused_typing number value }
 {
     TypeAll {
-        answer: Err(Refusal {
-            number: number,
-            value: value,
-        }),
+        answer: Err(Refusal { number, value }),
         word: Word::telex(),
     }
 }
@@ -90,49 +80,42 @@ pub fn type_all(mode: u8, keys: &[u8]) -> TypeAll
     }
 }
 
+// Refusals: 8.
+fn in_range(w: &Word) -> Result<(), Refusal>
+    ensures { result ≡ range_answer w.now }
+{
+    if records::lent_out_of_range(w) {
+        Err(Refusal {
+            number: 8,
+            value: 0,
+        })
+    } else {
+        Ok(())
+    }
+}
+
 // Where the tone is shown. Refusals: 8.
 pub fn place(w: Word) -> Result<Option<usize>, Refusal>
     ensures { result ≡ place_answer w }
 {
-    if records::out_of_range(w) {
-        return Err(Refusal {
-            number: 8,
-            value: 0,
-        });
-    }
-    let letters = w.letters;
-    let count = w.count as usize;
-    Ok(parts::tone_place(&letters[0..count], w.tone))
+    in_range(&w)?;
+    Ok(parts::tone_place(&w.letters[..w.count as usize], w.tone))
 }
 
 // The verdict. Refusals: 8.
 pub fn verdict(w: Word) -> Result<u8, Refusal>
     ensures { result ≡ verdict_answer w }
 {
-    if records::out_of_range(w) {
-        return Err(Refusal {
-            number: 8,
-            value: 0,
-        });
-    }
-    let letters = w.letters;
-    let count = w.count as usize;
-    Ok(syllable::verdict(&letters[0..count], w.tone))
+    in_range(&w)?;
+    Ok(syllable::verdict(&w.letters[..w.count as usize], w.tone))
 }
 
 // Keep or restore. Refusals: 8.
 pub fn decision(w: Word) -> Result<Decision, Refusal>
     ensures { result ≡ decision_answer w }
 {
-    if records::out_of_range(w) {
-        return Err(Refusal {
-            number: 8,
-            value: 0,
-        });
-    }
-    let letters = w.letters;
-    let count = w.count as usize;
-    let word = &letters[0..count];
+    in_range(&w)?;
+    let word = &w.letters[..w.count as usize];
     let untouched = (w.acted == 0) & (w.undone == 0);
     Ok(decided(word, untouched, w.closed, syllable::verdict(word, w.tone)))
 }

@@ -1,12 +1,11 @@
 -- `syllable::tone_fits` meets its contract: an acute and a dot fit every final, and any other tone what is no stop.
 use mathlib.Core.Path.{◌≡◌, refl, ap}
-use mathlib.Core.Bool.{true, not, ◌||◌}
+use mathlib.Core.Bool.{true, not}
 use mathlib.Core.Logic.{◌⊎◌, inl, inr}
 use Prim.Native.Nat.{ℕ}
-use lib.Dec.{eqb}
 use borrow.Author.Tests.{ne_eqb}
 use Rattle.rules.specs.Letters.{Letters, acute, dot}
-use Rattle.rules.specs.TakingApart.{stop, fits}
+use Rattle.rules.specs.TakingApart.{fits}
 use Rattle.syllable.proofs.tone_fits.Goals as goal
 
 fitting : (f : Letters) (tone : ℕ) → (tone ≡ acute) ⊎ (tone ≡ dot) → true ≡ fits f tone

@@ -2,7 +2,7 @@
 use Rattle.std.specs.Prelude.{Option, Some, None, Result, Ok, Err, ⊤, is_some}
 use Rattle.std.specs.Option.{unwrap_or, ok_or}
 use mathlib.Core.Path.{◌≡◌, refl, sym, ap, ap₂, ◌∙◌}
-use mathlib.Core.Bool.{Bool, true, false}
+use mathlib.Core.Bool.{Bool, true, false, ◌&&◌}
 use mathlib.Core.List.{List, [], ◌∷◌}
 use Prim.Native.Nat.{ℕ}
 use native.Mathlib.Omega.{arith}
@@ -19,7 +19,7 @@ use Rattle.rules.specs.declared.Outcome.{Outcome}
 use Rattle.rules.specs.declared.Decision.{Decision}
 use Rattle.rules.specs.declared.Decision.TheVariants.{Keep as Kept, Restore as Restored}
 use Rattle.rules.proofs.Refused.{refused_show}
-use Rattle.layout.specs.Places.{as_record, record_written, is_record, held, or_new}
+use Rattle.layout.specs.Places.{as_record, record_if, is_mark, byte, record_written, is_record, held, or_new}
 use Rattle.step.specs.InPlace.{bytes_after, step_if, step_at}
 use Rattle.press.specs.StepAndShow.{show_or, pressed_or, step_and_show}
 use Rattle.press.specs.declared.StepShown.{StepShown}
@@ -99,7 +99,13 @@ module _ (lent : List ℕ) (key : ℕ) where
       go true = by_answer (Rules.step (held lent) key).answer
       go false = refl
 
-  -- and shown: where the key is refused
+  -- and shown: where the bytes are not as many as a record's
+  pub not_long : (out : List ℕ) → (length lent ≡ 169 → ⊥) → Calls.type_and_show lent key out ≡ refusing no_record
+  unfolding Calls.type_and_show as_record
+  not_long out h =
+      ap (λ (b : Bool). of_record (is_some (record_if (b && is_mark (byte 3 lent)) lent)) (shown_says (step_and_show (held lent) key out).result.answer)) (ne_eqb (length lent) 169 h)
+
+  -- where the key is refused
   pub refused_at : (out : List ℕ) (x : Refusal) → (step_at lent key).answer ≡ Err x → Calls.type_and_show lent key out ≡ refusing x
   unfolding Calls.type_and_show step_at
   refused_at out x = go (is_record lent)

@@ -1,5 +1,5 @@
 -- A key typed where the lent bytes lie, and the text of the new word made in an output with room for any: what typing and showing comes to.
-use Rattle.std.specs.Prelude.{Ok, Option, Some}
+use Rattle.std.specs.Prelude.{Ok, Option, Some, Result}
 use mathlib.Core.Path.{◌≡◌, refl, sym, ap, ap₂, ◌∙◌}
 use mathlib.Core.List.{List}
 use Prim.Native.Nat.{ℕ, ◌-◌, ◌≤◌}
@@ -8,15 +8,16 @@ use lib.ListN.{length, take, length-take}
 use Rattle.rules.specs.TheWord.{at_front, most_keys, most_bytes}
 use Rattle.rules.specs.WhatComesBack.{Written, step}
 use Rattle.rules.specs.declared.Word.{Word}
+use Rattle.rules.specs.declared.Refusal.{Refusal}
 use Rattle.rules.specs.declared.Outcome.{Outcome}
 use Rattle.rules.proofs.Range.{few_letters}
-use Rattle.show.specs.Filling.{room_text}
+use Rattle.show.specs.Filling.{room_text, text_out}
 use Rattle.show.proofs.Answers.{made_there}
 use Rattle.layout.specs.Places.{as_record, held, or_new}
 use Rattle.layout.proofs.RoundTrips.{read_whole}
 use Rattle.step.specs.InPlace.{step_at}
 use Rattle.step.proofs.StepsAt.{was_done, now_held}
-use Rattle.press.specs.StepAndShow.{step_and_show}
+use Rattle.press.specs.StepAndShow.{show_or, step_and_show}
 use Rattle.press.proofs.Shows.{Then, did_so}
 
 -- the lent bytes once a key was taken: what is read of them is the new word
@@ -60,3 +61,9 @@ module _ (lent : List ℕ) (key : ℕ) (out : List ℕ) {o : Outcome} (d : (step
     with_room {n} {after} h many b =
         let t = made_there (take (new.count - 0) new.letters) new.tone out few n h (many ∙ ap (λ (l : List ℕ). length l) same_text) after (b ∙ ap (λ (l : List ℕ). at_front l out) same_text) in
         (so.result (Ok n) (ap (λ (x : Written). x.answer) t), sym (ap (λ (x : Written). x.output) t) ∙ so.output)
+
+    pub in_any : {a : Result ℕ Refusal} {after : List ℕ} → a ≡ (text_out (take v.count letters) v.tone out).answer → after ≡ (text_out (take v.count letters) v.tone out).output →
+        (show_or a o w new ≡ (step_and_show w key out).result) × (after ≡ (step_and_show w key out).output)
+    in_any {a} a_is after_is =
+        let same = ap₂ (λ (x : Word) (l : List ℕ). text_out (take x.count l) x.tone out) word_read letters_read ∙ ap (λ (n : ℕ). text_out (take n new.letters) new.tone out) no_less in
+        (so.result a (sym (a_is ∙ ap (λ (x : Written). x.answer) same)), after_is ∙ ap (λ (x : Written). x.output) same ∙ so.output)

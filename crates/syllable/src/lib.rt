@@ -60,6 +60,7 @@ fn known_initial(ini: u64) -> bool
 fn initial_fits(ini: u64, v: u8) -> bool
     ensures { (w : Letters) → Packs ini w → result ≡ fit w v }
 {
+    // No `matches!` of the bases: it branches and joins in each arm, and `|` is the rule's own test as one value.
     match ini {
         C | NG => !((v == b'e') | ((v == b'i') | (v == b'y'))),
         G => !((v == b'e') | (v == b'y')),
@@ -104,6 +105,7 @@ fn tone_fits(fin: u64, tone: u8) -> bool
 }
 
 // The first of the seven checks that holds, or 0: the one look that verdict and admission take at a word.
+// The number is no answer of the code's own making: the clause says it, and `verdict` hands it out, so it is no enum.
 // Check 6 asks for the nucleus as it stands; where its letters are free, for some listed nucleus that could still come of them.
 fn ask(s: &[u16], tone: u8, free: bool) -> u8
     ensures { result ≡ first_fault (map letter s.now) tone free }

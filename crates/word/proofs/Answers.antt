@@ -2,19 +2,18 @@
 use Rattle.std.specs.Prelude.{Result, Ok, Err}
 use mathlib.Core.Path.{◌≡◌, refl, sym, ap}
 use mathlib.Core.Bool.{Bool, true, false, not, ◌&&◌}
-use mathlib.Core.List.{List, [], ◌∷◌, map}
-use Prim.Native.Nat.{ℕ, ◌+◌, ◌/◌, ◌%◌, ◌≤◌, ◌<◌}
-use Prim.Native.Char.{code}
+use mathlib.Core.List.{List, map}
+use Prim.Native.Nat.{ℕ, ◌+◌, ◌≤◌, ◌<◌}
 use native.Mathlib.Omega.{arith}
 use lib.Dec.{T, eqb}
-use lib.ListN.{length, take, get_or}
+use lib.ListN.{length, take}
 use borrow.Author.Tests.{lt-ltb, le-ltb}
-use Rattle.rules.specs.Letters.{Letters, stroke}
+use Rattle.rules.specs.Letters.{Letters}
 use Rattle.rules.specs.TheWord.{most_keys, letter, new_word, holding}
 use Rattle.rules.specs.KeyRoles.{is_key}
 use Rattle.rules.specs.TakingApart.{verdict}
 use Rattle.rules.specs.TonePlace.{tone_place}
-use Rattle.rules.specs.Decision.{keeps, starts_with_đ}
+use Rattle.rules.specs.Decision.{keeps}
 use Rattle.rules.specs.Refusals.{all, is_mode, allowed_before, out_of_range, refusal}
 use Rattle.rules.specs.WhatComesBack.{typed, type_all, place_answer, verdict_answer, decision_answer}
 use Rattle.rules.specs.declared.Refusal.{Refusal}
@@ -22,15 +21,6 @@ use Rattle.rules.specs.declared.Word.{Word}
 use Rattle.rules.proofs.Tests.{is_true}
 use Rattle.word.specs.Refusing.{refused_typing, range_answer}
 use Rattle.word.specs.Deciding.{decided_by}
-
--- the first letter of a slice of numbers
-pub no_first : (s : List ℕ) → length s ≡ 0 → false ≡ starts_with_đ (map letter s)
-no_first [] e = refl
-no_first (n ∷ s) e = absurd (omega arith)
-
-pub first_is : (s : List ℕ) → (length s ≡ 0 → ⊥) → (eqb (get_or s 0 0 % 256) (code "d") && eqb (get_or s 0 0 / 256 % 8) stroke) ≡ starts_with_đ (map letter s)
-first_is [] h = absurd (h refl)
-first_is (n ∷ s) h = refl
 
 -- typing a list
 module _ (m : ℕ) (ks : List ℕ) where

@@ -144,7 +144,13 @@ fn too_long(total: u64, milliseconds: u64) -> bool
 }
 
 // What a press is refused for: 2 and 3 at the key's place, 11 at the time's.
-fn check(progress: Progress, milliseconds: u64, key: u32, key_at: usize, time_at: usize) -> Result<(), Refusal>
+fn check(
+    progress: Progress,
+    milliseconds: u64,
+    key: u32,
+    key_at: usize,
+    time_at: usize,
+) -> Result<(), Refusal>
     ensures { result ≡ checked_of progress (press milliseconds key) key_at time_at }
 {
     let space = key == SPACE as u32;

@@ -12,7 +12,9 @@ ghost use Rattle.rules.specs.WhatComesBack.{spell as spell_of};
 ghost use Rattle.speller.specs.TextRead.{reading_of, ReadInto, refused_write};
 
 use key_list::KeyList;
-use rules::{ACUTE, BREVE, CIRCUMFLEX, DOT, GRAVE, HOOK, HORN, NO_TONE, Refusal, STROKE, TILDE, Word};
+use rules::{
+    ACUTE, BREVE, CIRCUMFLEX, DOT, GRAVE, HOOK, HORN, NO_TONE, Refusal, STROKE, TILDE, Word,
+};
 
 // A text as far as it is read: how many bytes and letters; the first tone, the place of the letter that carries it, and whether another letter carries one.
 #[derive(Clone, Copy)]

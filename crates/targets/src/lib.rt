@@ -46,9 +46,7 @@ pub fn last_wanted(letters: &[u16], key: ShapeKey) -> Option<usize>
 pub fn last_own(letters: &[u16], own: u8) -> Option<usize>
     ensures { result ≡ last_place (own_of own) (map letter letters.now) }
 {
-    letters
-        .iter()
-        .rposition(|n| is_own(own, rules::base(*n)))
+    letters.iter().rposition(|n| is_own(own, rules::base(*n)))
 }
 
 fn is_q(n: u16) -> bool

@@ -49,5 +49,5 @@ returns c =
     let untouched = none_in_front c.pass.new.out a.out.now none in
     let found = sym c.pass.ensures.0 ∙ c.in_ok-found.was in
     let e = all_there a.recording.now a.out.now c.in_ok-begun.begun (sym c.begin.ensures ∙ c.in_ok-begun.was) c.in_ok-found.found found
-      (omega (arith, c.if-out-found.false, ap length untouched)) (subst (λ (l : List ℕ). LinesPut (throughout a.recording.now c.in_ok-begun.begun) l c.pass-2.new.out) untouched c.pass-2.ensures.1) in
+    (omega (arith, c.if-out-found.false, ap length untouched)) (subst (λ (l : List ℕ). LinesPut (throughout a.recording.now c.in_ok-begun.begun) l c.pass-2.new.out) untouched c.pass-2.ensures.1) in
     (ap told (c.pass-2.ensures.0 ∙ found) ∙ e.0, e.1)

@@ -1,8 +1,6 @@
 -- `felcantuzza::decision` meets its contract: no record, refused, or answered.
-use Rattle.std.specs.Prelude.{Option, Ok, Err}
-use Rattle.std.specs.Option.{ok_or}
-use mathlib.Core.Path.{refl, sym, ap, ◌∙◌}
-use Rattle.rules.specs.declared.Word.{Word}
+use Rattle.std.specs.Prelude.{Ok, Err}
+use mathlib.Core.Path.{sym, ap, ◌∙◌}
 use Rattle.felcantuzza.specs.Calls.{number_by, only_one, placed, no_record}
 use Rattle.std.proofs.lemmas.Result.{err_from_is_err_and}
 use Rattle.rules.specs.AnswersInNumbers.{decision_says}
@@ -14,14 +12,14 @@ use Rattle.felcantuzza.proofs.decision.Goals as goal
 pub returns-in_default : goal.returns-in_default
 unfolding Calls.decision
 returns-in_default c =
-    ap Err c.no_record.ensures ∙ sym (ap (number_by only_one) (no_word c.args.lent.now (ap (λ (o : Option Word). ok_or o no_record) (sym c.in_default.is ∙ c.read.ensures)) refl _))
+    ap Err c.no_record.ensures ∙ sym (ap (number_by only_one) (no_word c.args.lent.now (sym c.in_default.is ∙ c.read.ensures) _))
 
 pub returns-in_err-decision : goal.returns-in_err-decision
 unfolding Calls.decision
 returns-in_err-decision c =
     let p = err_from_is_err_and c.from_residual.result c.from_residual.ensures.1 in
-    p.1 ∙ ap Err p.2 ∙ ap (number_by only_one) (said c.args.lent.now (ap (λ (o : Option Word). ok_or o no_record) (sym c.in-Some.is ∙ c.read.ensures)) refl decision_says Rules.decision_answer (sym c.in_err-decision.was ∙ c.decision.ensures))
+    p.1 ∙ ap Err p.2 ∙ ap (number_by only_one) (said c.args.lent.now (sym c.in-Some.is ∙ c.read.ensures) decision_says Rules.decision_answer (sym c.in_err-decision.was ∙ c.decision.ensures))
 
 pub returns : goal.returns
 unfolding Calls.decision
-returns c = ap Ok c.decision_number.ensures ∙ ap (number_by only_one) (said c.args.lent.now (ap (λ (o : Option Word). ok_or o no_record) (sym c.in-Some.is ∙ c.read.ensures)) refl decision_says Rules.decision_answer (sym c.in_ok-decision.was ∙ c.decision.ensures))
+returns c = ap Ok c.decision_number.ensures ∙ ap (number_by only_one) (said c.args.lent.now (sym c.in-Some.is ∙ c.read.ensures) decision_says Rules.decision_answer (sym c.in_ok-decision.was ∙ c.decision.ensures))

@@ -1,6 +1,6 @@
 -- What each call says of bytes that are no record, and of a record; what it then returns, writes as its value and leaves in lent bytes.
 use Rattle.std.specs.Prelude.{Option, Some, None, Result, Ok, Err, ⊤, is_some}
-use Rattle.std.specs.Option.{unwrap_or, ok_or}
+use Rattle.std.specs.Option.{unwrap_or}
 use mathlib.Core.Path.{◌≡◌, refl, sym, ap, ap₂, ◌∙◌}
 use mathlib.Core.Bool.{Bool, true, false, ◌&&◌}
 use mathlib.Core.List.{List, [], ◌∷◌}
@@ -117,37 +117,18 @@ module _ (lent : List ℕ) (key : ℕ) where
       go true e = sym (ap (λ (y : StepShown). shown_says y.answer) (refused_so w key out (Rules.step w key) refl x e).0)
       go false e = ap step_says e
 
--- calls on a record that is read from the lent bytes
-module _ (lent : List ℕ) {a : Result Word Refusal} (e : a ≡ ok_or (as_record lent) no_record) where
-  pub no_word : {x : Refusal} → a ≡ Err x → (s : Says) → of_record (is_record lent) s ≡ refusing x
-  no_word {x} p s = go (as_record lent) (sym e ∙ p)
-    where
-      refused_as : Result Word Refusal → Says
-      refused_as (Ok w) = s
-      refused_as (Err r) = refusing r
+-- calls on bytes that are no record, and on a record that is read from them
+module _ (lent : List ℕ) where
+  pub no_word : None ≡ as_record lent → (s : Says) → of_record (is_record lent) s ≡ refusing no_record
+  no_word e s = sym (ap (λ (o : Option Word). of_record (is_some o) s) e)
 
-      go : (o : Option Word) → ok_or o no_record ≡ Err x → of_record (is_some o) s ≡ refusing x
-      go None q = ap refused_as q
-      go (Some w) q = let z : ◌≡◌ {A = ℕ} 0 1 = cc in absurd (omega arith)
-
-  module _ {w : Word} (p : a ≡ Ok w) where
-    pub a_word : (is_record lent ≡ true) × (w ≡ held lent)
-    a_word = go (as_record lent) (sym p ∙ e)
-      where
-        word : Result Word Refusal → Word
-        word (Ok v) = v
-        word (Err r) = w
-
-        go : (o : Option Word) → Ok w ≡ ok_or o no_record → (is_some o ≡ true) × (w ≡ or_new o)
-        go None q = let z : ◌≡◌ {A = ℕ} 0 1 = cc in absurd (omega arith)
-        go (Some v) q = (refl, ap word q)
-
+  module _ {w : Word} (e : Some w ≡ as_record lent) where
     pub said : {A : Type 0} (says : A → Says) (f : Word → A) {y : A} → y ≡ f w → says y ≡ of_record (is_record lent) (says (f (held lent)))
-    said says f q = ap says q ∙ ap₂ (λ (b : Bool) (v : Word). of_record b (says (f v))) (sym a_word.0) a_word.1
+    said says f q = ap says q ∙ ap (λ (o : Option Word). of_record (is_some o) (says (f (or_new o)))) e
 
     pub shown_output : (out : List ℕ) → (Rules.show w out).output ≡ Calls.show_output lent out
     unfolding Calls.show
-    shown_output out = left (Rules.show w out).answer refl ∙ ap₂ (λ (b : Bool) (v : Word). unless_refused (of_record b (write_says (Rules.show v out).answer)) (Rules.show v out).output out) (sym a_word.0) a_word.1
+    shown_output out = left (Rules.show w out).answer refl ∙ ap (λ (o : Option Word). unless_refused (of_record (is_some o) (write_says (Rules.show (or_new o) out).answer)) (Rules.show (or_new o) out).output out) e
       where
         left : (r : Result ℕ Refusal) → (Rules.show w out).answer ≡ r → (Rules.show w out).output ≡ unless_refused (write_says (Rules.show w out).answer) (Rules.show w out).output out
         left (Ok n) q = sym (ap (λ (r : Result ℕ Refusal). unless_refused (write_says r) (Rules.show w out).output out) q)

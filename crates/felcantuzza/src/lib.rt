@@ -4,9 +4,7 @@
 #![tactic(auto)]
 
 ghost use Rattle.std.specs.Prelude.{◌≡◌};
-ghost use Rattle.std.specs.Option.{ok_or};
 ghost use Rattle.rules.specs.AnswersInNumbers.{outcome_numbers, write_says, decision_number as decision_number_of};
-ghost use Rattle.layout.specs.Places.{as_record};
 ghost use Rattle.felcantuzza.specs.Calls as Calls;
 ghost use Rattle.felcantuzza.specs.Recordings as Recordings;
 
@@ -37,13 +35,6 @@ fn no_record() -> Refusal
         number: 8,
         value: 0,
     }
-}
-
-// The word whose record is lent.
-fn record_in(lent: &[u8]) -> Result<Word, Refusal>
-    ensures { result ≡ ok_or (as_record lent.now) Calls.no_record }
-{
-    layout::read(lent).ok_or(no_record())
 }
 
 fn act_number(act: Act) -> usize
@@ -173,7 +164,9 @@ pub fn fz_type_and_show(
 fn shown(lent: &[u8], out: &mut [u8]) -> Result<usize, Refusal>
     ensures { (result ≡ Calls.number_by Calls.only_one (Calls.show lent.now out.old)) × (out.new ≡ Calls.show_output lent.now out.old) }
 {
-    let w = record_in(lent)?;
+    let Some(w) = layout::read(lent) else {
+        return Err(no_record());
+    };
     show::show_in(&w, out)
 }
 
@@ -187,7 +180,9 @@ pub fn fz_show(lent: &[u8], out: &mut [u8], value: &mut usize) -> u8
 fn verdict(lent: &[u8]) -> Result<usize, Refusal>
     ensures { result ≡ Calls.number_by Calls.only_one (Calls.verdict lent.now) }
 {
-    let w = record_in(lent)?;
+    let Some(w) = layout::read(lent) else {
+        return Err(no_record());
+    };
     let verdict = word::verdict(w)?;
     Ok(verdict as usize)
 }
@@ -202,7 +197,9 @@ pub fn fz_verdict(lent: &[u8], value: &mut usize) -> u8
 fn place(lent: &[u8]) -> Result<usize, Refusal>
     ensures { result ≡ Calls.number_by Calls.placed (Calls.place lent.now) }
 {
-    let w = record_in(lent)?;
+    let Some(w) = layout::read(lent) else {
+        return Err(no_record());
+    };
     let place = word::place(w)?;
     Ok(place.unwrap_or(255))
 }
@@ -217,7 +214,9 @@ pub fn fz_place(lent: &[u8], value: &mut usize) -> u8
 fn decision(lent: &[u8]) -> Result<usize, Refusal>
     ensures { result ≡ Calls.number_by Calls.only_one (Calls.decision lent.now) }
 {
-    let w = record_in(lent)?;
+    let Some(w) = layout::read(lent) else {
+        return Err(no_record());
+    };
     let decision = word::decision(w)?;
     Ok(decision_number(decision))
 }

@@ -52,6 +52,10 @@ module _ (mode : ℕ) (presses out : List ℕ) where
   unfolding Recordings.record_drill
   written p = p ∙ its_number (written_drill mode presses out).answer
 
+  pub refused_record : {a : Result ℕ Refusal} → a ≡ (written_drill mode presses out).answer → (x : Refusal) → a ≡ Err x → (written_drill mode presses out).output ≡ out
+  unfolding written_drill
+  refused_record p x q = by_mode mode (map press_in presses) out x (wrong_mode mode) (sym p ∙ q)
+
   pub output_left : (written_drill mode presses out).output ≡ Recordings.record_output mode presses out
   unfolding written_drill Recordings.record_drill
   output_left = go (written_drill mode presses out).answer refl
@@ -61,7 +65,7 @@ module _ (mode : ℕ) (presses out : List ℕ) where
 
       go : (a : Result ℕ Refusal) → (written_drill mode presses out).answer ≡ a → (written_drill mode presses out).output ≡ left (written_drill mode presses out).answer
       go (Ok n) q = sym (ap left q)
-      go (Err x) q = by_mode mode (map press_in presses) out x (wrong_mode mode) q ∙ sym (ap left q)
+      go (Err x) q = refused_record refl x q ∙ sym (ap left q)
 
 module _ (s : List ℕ) {a x : Result Begun Refusal} (p : a ≡ Reading.begin s) (q : a ≡ x) where
   pub begun : Recordings.begin s ≡ begin_says x

@@ -21,13 +21,13 @@ use Rattle.rules.specs.declared.Word.{Word}
 use Rattle.rules.specs.declared.Refusal.{Refusal}
 use Rattle.rules.proofs.Refused.{refusal_given, refusal_none}
 use Rattle.rules.proofs.Tests.{is_true, is_false}
-use Rattle.layout.specs.Places.{as_bytes, as_record, is_long, is_mark, byte, record_if, record_written}
+use Rattle.layout.specs.Places.{as_bytes, as_record, is_long, is_mark, byte, record_if, record_written, is_record, held}
 use Rattle.layout.proofs.Answers.{written}
 use Rattle.layout.proofs.RoundTrips.{read_whole}
 use Rattle.press.specs.StepAndShow.{Shown}
 use Rattle.felcantuzza.specs.Calls as Calls
 use Rattle.felcantuzza.specs.Calls.{returned, value_by, in_one, only_one, placed, unless_refused, of_record, shown_says, commit_or}
-use Rattle.promises.specs.Box.{FzStartAllows, FzTypeAllows, FzTypeAndShowAllows, FzShowAllows, FzVerdictAllows, FzPlaceAllows, FzDecisionAllows, FzCommitAllows, FzSpellAllows, OnBytes, held, is_record, press_call, BoxAnswers, BoxTight, BoxPossible}
+use Rattle.promises.specs.Box.{FzStartAllows, FzTypeAllows, FzTypeAndShowAllows, FzShowAllows, FzVerdictAllows, FzPlaceAllows, FzDecisionAllows, FzCommitAllows, FzSpellAllows, OnBytes, press_call, BoxAnswers, BoxTight, BoxPossible}
 use Rattle.promises.proofs.Pressed.{pressed_by, pressed}
 
 -- what came back is a definition over whether there is a record and over the refusal of the call

@@ -11,7 +11,6 @@ use Rattle.rules.specs.WhatComesBack.{Written}
 use Rattle.rules.specs.declared.Refusal.{Refusal}
 use Rattle.groups.specs.Numbers.{most_groups, number, written, held}
 use Rattle.groups.specs.declared.Groups.{Groups}
-use Rattle.groups.proofs.Reading.{was_some}
 use Rattle.groups.proofs.BothWays.{number_back, written_back, number_groups}
 use Rattle.recording.specs.Recordings.{step_at, begin, Reading, broken, presses, before as in_front, refused_at, drill, in_mode, recorded_after, recorded}
 use Rattle.recording.specs.Drills.{press_in, number_of, written_drill}
@@ -42,7 +41,7 @@ numbers_back n g bs rest at a below w here r =
 
 pub bytes_back : BytesBack
 bytes_back bs at n g all r w =
-    let there = was_some (number (drop at bs)) n (number_read r) in
+    let there = sym (number_read r) in
     ap (take n.groups) (written_back (drop at bs) n there (bytes_behind at bs all)) ∙
     take_at (written n.value) (drop n.groups (drop at bs)) n.groups (sym (number_groups (drop at bs) n there)) ∙ sym (its_groups n.value g (number_written w))
 

@@ -131,13 +131,6 @@ pub record OnBytes {R : Type 0} (is_record : Bool) (c : Call) (came_back answer 
   pub answers : T is_record → NoneHolds (table c) → came_back ≡ answer
   pub refuses : T is_record → (x : Refusal) → FirstOf (table c) x → came_back ≡ refused x
 
--- the word that lent bytes hold, where they are a record
-abbrev pub held : List ℕ → Word
-held lent = (held lent)
-
-abbrev pub is_record : List ℕ → Bool
-is_record lent = (is_record lent)
-
 -- a key typed and the word shown, as one call: a record, a key, and an output for the text after it
 abbrev pub press_call : Word → ℕ → List ℕ → Call
 press_call w k out =

@@ -40,7 +40,7 @@ ReaderSteps =
 
 -- At the end, and after a refused step, the reader stands where it stood, and the drill has come no further.
 abbrev pub NoPress : Result (Option KeyPress) Refusal → Type 0
-NoPress x = (x ≡ (Ok None)) ⊎ ((r : Refusal) × (x ≡ Err r))
+NoPress x = (x ≡ Ok None) ⊎ ((r : Refusal) × (x ≡ Err r))
 
 abbrev pub StandsStill : Type 0
 StandsStill = (before after : Reader) (p : Progress) (t : Stepped) → NextAllows before p t after → NoPress t.press → (after ≡ before) × (t.progress ≡ p)

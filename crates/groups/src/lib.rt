@@ -24,7 +24,7 @@ const LIMIT: u64 = 4294967296;
 
 // The number that stands at a place. None: cut short, too long, too large, or not in the shortest form.
 pub fn number_at(bytes: &[u8], at: usize) -> Option<Number>
-    ensures { result ≡ (number (drop at bytes.now)) }
+    ensures { result ≡ number (drop at bytes.now) }
 {
     groups_at(bytes, at, MOST)
 }
@@ -32,7 +32,7 @@ pub fn number_at(bytes: &[u8], at: usize) -> Option<Number>
 // The same in at most so many groups.
 fn groups_at(bytes: &[u8], at: usize, left: u8) -> Option<Number>
     requires { left ≤ 5 }
-    ensures { result ≡ (number_in left (drop at bytes.now)) }
+    ensures { result ≡ number_in left (drop at bytes.now) }
 {
     if left == 0 {
         return None;

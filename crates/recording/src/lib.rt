@@ -98,7 +98,7 @@ impl Progress {
 
     // How far the drill has come with a press more.
     fn onward(self, x: KeyPress) -> Progress
-        requires { checked_of self x 0 0 ≡ (Ok tt) }
+        requires { checked_of self x 0 0 ≡ Ok tt }
         ensures { result ≡ onward_of self x }
     {
         Progress {

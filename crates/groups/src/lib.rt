@@ -11,7 +11,7 @@ pub struct Number {
     pub groups: usize,
 }
 
-// A number as it is written: its groups, and how many of the five they are.
+// A number as it is written: its groups, and how many of the five they are. An array with its count: nothing is allocated.
 #[derive(Clone, Copy)]
 pub struct Groups {
     pub bytes: [u8; 5],

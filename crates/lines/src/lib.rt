@@ -14,7 +14,7 @@ ghost use Rattle.lines.specs.Programs.{word_line_of, six_end as six_end_of, line
 use line::{Line, NEWLINE, SPACE};
 use rules::{Decision, Refusal, Word};
 
-// The programs that answer lines.
+// The programs that answer lines. An enum, and no function handed in: the clauses say of which program an answer is.
 #[derive(Clone, Copy)]
 pub enum Program {
     Drill,

@@ -54,7 +54,7 @@ struct Play<'a> {
     totals: Totals,
 }
 
-// What follows a turn: another, or nothing but what waits, at the end of the recording or where a read failed.
+// What follows a turn: another, or nothing but what waits, at the end of the recording or where a read failed. Three ways and no value: no `Result`.
 #[derive(Clone, Copy)]
 enum Next {
     More,

@@ -25,7 +25,7 @@ const ROOM: usize = 1 + 6 * MOST;
 // Milliseconds from here on are refused by the writer, however many there are.
 const TOO_LONG: u64 = 4294967296;
 
-// How much of a line has been read, or what is wrong with it.
+// How much of a line has been read, or what is wrong with it. A `match` on it is the plainest: each stage takes a byte and the end of a line its own way.
 #[derive(Clone, Copy)]
 enum Stage {
     NoMode,

@@ -120,6 +120,7 @@ impl Given {
     }
 }
 
+// Of this crate alone: shared with the step and the speller it would be a public function for one literal.
 fn faulty(number: u8, place: usize) -> Result<(), Refusal>
     ensures { result ≡ Err (refused_for number place) }
 {

@@ -150,6 +150,7 @@ fn awaits_o(x: u16, behind: &[u16]) -> bool
     }
 }
 
+// Of this crate alone: shared with the step and the recordings it would be a public function for one literal.
 fn refused(number: u8, value: usize) -> Result<usize, Refusal>
     ensures { result ≡ refused_write number value }
 {

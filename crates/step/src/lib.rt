@@ -276,6 +276,7 @@ fn typed(lent: &mut [u8], letters: &mut [u16], mode: u8, n: Numbers, key: u8) ->
     outcome
 }
 
+// Of this crate alone: shared with the speller and the recordings it would be a public function for one literal.
 fn refused(number: u8, value: usize) -> Result<Outcome, Refusal>
     ensures { result ≡ refused_with number value }
 {

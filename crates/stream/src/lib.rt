@@ -11,7 +11,8 @@ ghost use Rattle.stream.specs.Feeding.{none_begun, line_of, kept, byte_fed, plac
 use lines::Program;
 use rules::Refusal;
 
-// The program, and the line that has begun: its first bytes, as many as an answer can depend on, and how many they are.
+// The program, and the line that has begun: its first bytes, as many as an answer can depend on, and how many they are. An array with its
+// count, since nothing is allocated; any length may be handed in, so the type has no invariant.
 #[derive(Clone, Copy)]
 pub struct Begun {
     pub program: Program,

@@ -52,6 +52,7 @@ fn typed_all(mode: u8, keys: &[u8]) -> Word
     layout::read(&bytes).unwrap_or(begun)
 }
 
+// A new Telex word stands beside the refusal, as the clause says: so no `Err` alone.
 fn refused(number: u8, value: usize) -> TypeAll
     ensures { result ≡ refused_typing number value }
 {

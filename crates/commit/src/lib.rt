@@ -7,7 +7,7 @@ ghost use Rattle.rules.specs.Refusals.{out_of_range};
 ghost use Rattle.rules.specs.WhatComesBack.{commit as commit_of, commit_answer};
 ghost use Rattle.commit.specs.Rulings.{judged, ruling_of, handed_from};
 
-use rules::{Decision, Refusal, Word};
+use rules::{Decision, Refusal, Word, refuse};
 
 // What is to be handed back: so many bytes of the text, or the keys.
 #[derive(Clone, Copy, Debug, PartialEq, Eq)]
@@ -27,10 +27,7 @@ fn judge(w: &Word, text: &[u8]) -> Result<Ruling, Refusal>
     let n = show::in_room(letters, w.tone, &mut shown);
     // By iterators: == of slices, which takes many bytes at once, is 500 bytes of code more.
     if !text.iter().eq(&shown[..n]) {
-        return Err(Refusal {
-            number: 5,
-            value: 0,
-        });
+        return refuse(5, 0);
     }
     let untouched = (w.acted == 0) & (w.undone == 0);
     let verdict = syllable::verdict(letters, w.tone);
@@ -45,22 +42,13 @@ pub fn rule(mode: u8, keys: &[u8], text: &[u8]) -> Result<Ruling, Refusal>
     ensures { result ≡ ruling_of mode keys.now text.now }
 {
     if !keys::is_mode(mode) {
-        return Err(Refusal {
-            number: 1,
-            value: 0,
-        });
+        return refuse(1, 0);
     }
     if Word::KEYS < keys.len() {
-        return Err(Refusal {
-            number: 2,
-            value: Word::KEYS,
-        });
+        return refuse(2, Word::KEYS);
     }
     if Word::TEXT < text.len() {
-        return Err(Refusal {
-            number: 2,
-            value: Word::TEXT,
-        });
+        return refuse(2, Word::TEXT);
     }
     let all = word::type_all(mode, keys);
     all.answer?;

@@ -4,7 +4,7 @@
 ghost use Rattle.std.specs.Prelude.{◌≡◌};
 ghost use Rattle.output.specs.Front.{put};
 
-use rules::Refusal;
+use rules::{Refusal, refuse};
 
 // The text at the front of the output, and the rest of the output as it was. Refusals: 4 with the bytes needed; the output is then as it was.
 pub fn write(text: &[u8], out: &mut [u8]) -> Result<usize, Refusal>
@@ -12,10 +12,7 @@ pub fn write(text: &[u8], out: &mut [u8]) -> Result<usize, Refusal>
 {
     let needed = text.len();
     if out.len() < needed {
-        return Err(Refusal {
-            number: 4,
-            value: needed,
-        });
+        return refuse(4, needed);
     }
     out[0..needed].copy_from_slice(text);
     Ok(needed)

@@ -6,10 +6,10 @@ ghost use Rattle.rules.specs.TheWord.{at_front};
 ghost use Rattle.rules.specs.KeyRoles.{is_key as is_key_of};
 ghost use Rattle.rules.specs.Refusals.{all};
 ghost use Rattle.groups.specs.Numbers.{limit, written};
-ghost use Rattle.recording.specs.Recordings.{is_space, press, none_yet, in_word as in_word_of, onward as onward_of, word_full, refused_for, checked as checked_of, staying as staying_of, refused_step, step_at as step_at_of, begin as begin_of};
+ghost use Rattle.recording.specs.Recordings.{is_space, press, none_yet, in_word as in_word_of, onward as onward_of, word_full, checked as checked_of, staying as staying_of, refused_step, step_at as step_at_of, begin as begin_of};
 ghost use Rattle.recording.specs.Drills.{press_in, short_time, drill_bytes, checked_from, written_drill};
 
-use rules::{Refusal, Word};
+use rules::{Refusal, Word, refuse};
 
 // The key that ends a word.
 pub const SPACE: u8 = b' ';
@@ -60,16 +60,10 @@ pub fn begin(recording: &[u8]) -> Result<Begun, Refusal>
     ensures { result ≡ begin_of recording.now }
 {
     let Some(mode) = groups::number_at(recording, 0) else {
-        return Err(Refusal {
-            number: 10,
-            value: 0,
-        });
+        return refuse(10, 0);
     };
     if mode.value > Word::VNI as u32 {
-        return Err(Refusal {
-            number: 1,
-            value: 0,
-        });
+        return refuse(1, 0);
     }
     Ok(Begun {
         at: mode.groups,
@@ -120,16 +114,6 @@ impl Given {
     }
 }
 
-// Of this crate alone: shared with the step and the speller it would be a public function for one literal.
-fn faulty(number: u8, place: usize) -> Result<(), Refusal>
-    ensures { result ≡ Err (refused_for number place) }
-{
-    Err(Refusal {
-        number,
-        value: place,
-    })
-}
-
 // A key number that the mode allows: none over 255 is.
 fn is_key(mode: u8, key: u32) -> bool
     ensures { result ≡ is_key_of mode key }
@@ -156,13 +140,13 @@ fn check(
 {
     let space = key == SPACE as u32;
     if !space & (Word::KEYS <= progress.in_word) {
-        return faulty(2, key_at);
+        return refuse(2, key_at);
     }
     if !(space | is_key(progress.mode, key)) {
-        return faulty(3, key_at);
+        return refuse(3, key_at);
     }
     if too_long(progress.milliseconds, milliseconds) {
-        return faulty(11, time_at);
+        return refuse(11, time_at);
     }
     Ok(())
 }
@@ -180,10 +164,7 @@ fn staying(x: Result<Option<KeyPress>, Refusal>, at: usize, progress: Progress) 
 fn cut_short(place: usize, at: usize, progress: Progress) -> Stepped
     ensures { result ≡ refused_step 10 place at progress }
 {
-    let cut = Err(Refusal {
-        number: 10,
-        value: place,
-    });
+    let cut = refuse(10, place);
     staying(cut, at, progress)
 }
 
@@ -281,18 +262,12 @@ pub fn write(mode: u8, presses: &[u64], out: &mut [u8]) -> Result<usize, Refusal
     ensures { (result ≡ (written_drill mode presses.now out.old).answer) × (out.new ≡ (written_drill mode presses.now out.old).output) }
 {
     if !keys::is_mode(mode) {
-        return Err(Refusal {
-            number: 1,
-            value: 0,
-        });
+        return refuse(1, 0);
     }
     first_fault(mode, presses)?;
     let needed = bytes_needed(mode, presses);
     if out.len() < needed {
-        return Err(Refusal {
-            number: 4,
-            value: needed,
-        });
+        return refuse(4, needed);
     }
     Ok(put_drill(mode, presses, out))
 }

@@ -13,7 +13,7 @@ ghost use Rattle.replay.specs.Replays.{committed_line, done_of, word_replayed, r
 ghost use Rattle.replay.specs.Passes.{throughout, passage_of, told, LinesPut, with_done, Fits, FitsKeys, line_at, some_keys, total_if, keys_unless, output_if};
 
 use recording::{Begun, Progress, SPACE};
-use rules::{Decision, Refusal, Word};
+use rules::{Decision, Refusal, Word, refuse};
 
 // The words, those kept and restored, the keys that acted, undid and were appended, and all milliseconds.
 #[derive(Clone, Copy, Default)]
@@ -205,10 +205,7 @@ fn played(recording: &[u8], out: &mut [u8]) -> Result<Found, Refusal>
     let begun = recording::begin(recording)?;
     let found = pass(recording, begun, &mut out[..0])?;
     if out.len() < found.written {
-        return Err(Refusal {
-            number: 4,
-            value: found.written,
-        });
+        return refuse(4, found.written);
     }
     pass(recording, begun, out)
 }

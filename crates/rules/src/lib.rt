@@ -2,7 +2,7 @@
 // Every rule over them is a definition in specs/, one file for each section of the document.
 #![tactic(auto)]
 
-ghost use Rattle.std.specs.Prelude.{◌≡◌, ◌%◌};
+ghost use Rattle.std.specs.Prelude.{◌≡◌, ◌%◌, Err};
 ghost use Rattle.rules.specs.Letters.{telex, vni, small, is as is_of};
 ghost use Rattle.rules.specs.TheWord.{new_word, letter as letter_of, number};
 ghost use Rattle.rules.specs.KeyRoles.{shaped};
@@ -39,7 +39,7 @@ impl Word {
 
     pub const VNI: u8 = 1;
 
-    // No place of a key: no key shaped the letter, or none set the tone.
+    // No place of a key: no key shaped the letter, or none set the tone. A number, since a place is a byte of the record.
     pub const NO_KEY: u8 = 255;
 
     // A new Telex word.
@@ -200,6 +200,13 @@ pub enum Decision {
 pub struct Refusal {
     pub number: u8,
     pub value: usize,
+}
+
+// The refusal of any entry.
+pub fn refuse<T>(number: u8, value: usize) -> Result<T, Refusal>
+    ensures { result ≡ Err (record { number = number; value = value }) }
+{
+    Err(Refusal { number, value })
 }
 
 // The answers with a word beside them: a refusal hands back a word too, a new one or the old one, so the word is not in the `Ok`.

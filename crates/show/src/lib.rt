@@ -9,7 +9,7 @@ ghost use Rattle.rules.specs.TonePlace.{tone_place};
 ghost use Rattle.letters.specs.Writing.{bytes_if, letter_bytes};
 ghost use Rattle.show.specs.Filling.{tone_if, toned_at, text_from, room_text, text_out};
 
-use rules::{NO_TONE, Refusal, Word};
+use rules::{NO_TONE, Refusal, Word, refuse};
 
 // The UTF-8 bytes of a code point from a place of the text on; the place after them. No code point (0) shows nothing.
 fn put_point(text: &mut [u8], at: usize, point: u16) -> usize
@@ -104,10 +104,7 @@ pub fn text(letters: &[u16], tone: u8, out: &mut [u8]) -> Result<usize, Refusal>
     ensures { (result ≡ (text_out letters.now tone out.old).answer) × (out.new ≡ (text_out letters.now tone out.old).output) }
 {
     if Word::KEYS < letters.len() {
-        return Err(Refusal {
-            number: 2,
-            value: Word::KEYS,
-        });
+        return refuse(2, Word::KEYS);
     }
     // With room for any text it is made where it is to stand; else it is made first, and its length then known.
     if Word::TEXT <= out.len() {
@@ -123,10 +120,7 @@ pub fn show_in(w: &Word, out: &mut [u8]) -> Result<usize, Refusal>
     ensures { (result ≡ (show_of w.now out.old).answer) × (out.new ≡ (show_of w.now out.old).output) }
 {
     if records::lent_out_of_range(w) {
-        return Err(Refusal {
-            number: 8,
-            value: 0,
-        });
+        return refuse(8, 0);
     }
     text(&w.letters[..w.count as usize], w.tone, out)
 }

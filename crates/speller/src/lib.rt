@@ -9,11 +9,11 @@ ghost use Rattle.rules.specs.TheWord.{most_bytes, letter};
 ghost use Rattle.rules.specs.CodePoints.{Sign};
 ghost use Rattle.rules.specs.Speller.{key_of_letter as key_of_letter_of, shape_key as shape_key_of, tone_key as tone_key_of, awaits_o as awaits_o_of, letters_in, fault as fault_of};
 ghost use Rattle.rules.specs.WhatComesBack.{spell as spell_of};
-ghost use Rattle.speller.specs.TextRead.{reading_of, ReadInto, refused_write};
+ghost use Rattle.speller.specs.TextRead.{reading_of, ReadInto};
 
 use key_list::KeyList;
 use rules::{
-    ACUTE, BREVE, CIRCUMFLEX, DOT, GRAVE, HOOK, HORN, NO_TONE, Refusal, STROKE, TILDE, Word,
+    ACUTE, BREVE, CIRCUMFLEX, DOT, GRAVE, HOOK, HORN, NO_TONE, Refusal, STROKE, TILDE, Word, refuse,
 };
 
 // A text as far as it is read: how many bytes and letters; the first tone, the place of the letter that carries it, and whether another letter carries one.
@@ -150,36 +150,26 @@ fn awaits_o(x: u16, behind: &[u16]) -> bool
     }
 }
 
-// Of this crate alone: shared with the step and the recordings it would be a public function for one literal.
-fn refused(number: u8, value: usize) -> Result<usize, Refusal>
-    ensures { result ≡ refused_write number value }
-{
-    Err(Refusal {
-        number: number,
-        value: value,
-    })
-}
-
 // Shown text back to its one standard key list. Refusals: 1, 2 (96), 6 with the place, 7 with 8, 1 to 7 or 9, then 4.
 pub fn spell(mode: u8, text: &[u8], out: &mut [u8]) -> Result<usize, Refusal>
     ensures { (result ≡ (spell_of mode text.now out.old).answer) × (out.new ≡ (spell_of mode text.now out.old).output) }
 {
     if !keys::is_mode(mode) {
-        return refused(1, 0);
+        return refuse(1, 0);
     }
     let n = text.len();
     if Word::TEXT < n {
-        return refused(2, Word::TEXT);
+        return refuse(2, Word::TEXT);
     }
     let mut letters = [0; Word::TEXT];
     let r = read(text, &mut letters);
     if r.at < n {
-        return refused(6, r.at);
+        return refuse(6, r.at);
     }
     let word = &letters[..r.count];
     let number = r.fault(word);
     if number != 0 {
-        return refused(7, number as usize);
+        return refuse(7, number as usize);
     }
     let mut keys = KeyList::new();
     keys.standard(mode, word, r.tone);

@@ -7,10 +7,10 @@ ghost use Rattle.rules.specs.KeyRoles.{letter_of_key, asks_second_horn as asks_s
 ghost use Rattle.rules.specs.LettersOfAMode.{AllFine};
 ghost use Rattle.rules.specs.WhatComesBack.{step as step_of};
 ghost use Rattle.step.specs.LentLetters.{LettersInFront, RoomForLetter, NoSecondHorn, appended_plainly, second_horn_on, with_second_horn, LeavesState, DoesAsRuled, state_in, after_edit, rest_with_tone, counted_in, unless_closed_role};
-ghost use Rattle.step.specs.InPlace.{held_in, ReadyAt, TypedAt, refused_with, not_taken as not_taken_of, step_at as step_at_of};
+ghost use Rattle.step.specs.InPlace.{held_in, ReadyAt, TypedAt, not_taken as not_taken_of, step_at as step_at_of};
 
 use records::Numbers;
-use rules::{Act, HORN, NO_TONE, Outcome, Refusal, Role, Step, ToneKey, Touched, Word};
+use rules::{Act, HORN, NO_TONE, Outcome, Refusal, Role, Step, ToneKey, Touched, Word, refuse};
 
 mod edits;
 mod keeping;
@@ -276,22 +276,15 @@ fn typed(lent: &mut [u8], letters: &mut [u16], mode: u8, n: Numbers, key: u8) ->
     outcome
 }
 
-// Of this crate alone: shared with the speller and the recordings it would be a public function for one literal.
-fn refused(number: u8, value: usize) -> Result<Outcome, Refusal>
-    ensures { result ≡ refused_with number value }
-{
-    Err(Refusal { number, value })
-}
-
 // A key that is not taken: the word is full, or else its mode does not allow the key. One question leads here and not two: what stands
 // behind many, the compiler takes for seldom run.
 fn not_taken(at: usize) -> Result<Outcome, Refusal>
     ensures { result ≡ not_taken_of at }
 {
     if Word::KEYS <= at {
-        return refused(2, Word::KEYS);
+        return refuse(2, Word::KEYS);
     }
-    refused(3, at)
+    refuse(3, at)
 }
 
 // One key, typed into a word that is lent as its record's bytes, where they lie. Refusals: 8, also for bytes that are no record, 2, 3; the
@@ -300,22 +293,22 @@ pub fn step_at(lent: &mut [u8], key: u8) -> Result<Outcome, Refusal>
     ensures { (result ≡ (step_at_of lent.old key).answer) × (lent.new ≡ (step_at_of lent.old key).bytes) }
 {
     let Some(w) = layout::read(lent) else {
-        return refused(8, 0);
+        return refuse(8, 0);
     };
     let mode = w.mode;
     let n = records::numbers_of(w);
     if records::numbers_wrong(&w) | records::places_wrong(&w) {
-        return refused(8, 0);
+        return refuse(8, 0);
     }
     let at = w.typed as usize;
     // The keys are taken out of the word, for the same reason as the places in records::places_wrong.
     let kept = w.keys;
     if !records::keys_allowed(mode, &kept[..at]) {
-        return refused(8, 0);
+        return refuse(8, 0);
     }
     let mut letters = layout::letters_of(lent);
     if !records::letters_allowed(mode, &letters[..w.count as usize]) {
-        return refused(8, 0);
+        return refuse(8, 0);
     }
     if (Word::KEYS <= at) | !keys::is_key(mode, key) {
         return not_taken(at);

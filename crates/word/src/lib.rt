@@ -10,7 +10,7 @@ ghost use Rattle.rules.specs.KeyRoles.{is_key};
 ghost use Rattle.rules.specs.Refusals.{all, is_mode as is_mode_of};
 ghost use Rattle.rules.specs.WhatComesBack.{start as start_of, typed, type_all as type_all_of, place_answer, verdict_answer, decision_answer};
 
-use rules::{Decision, Refusal, STROKE, Start, TypeAll, Word};
+use rules::{Decision, Refusal, STROKE, Start, TypeAll, Word, refuse};
 
 // A new word in a mode. Refusals: 1.
 pub fn start(mode: u8) -> Start
@@ -20,10 +20,7 @@ pub fn start(mode: u8) -> Start
         Word::TELEX => (Ok(()), Word::telex()),
         Word::VNI => (Ok(()), Word::vni()),
         _ => (
-            Err(Refusal {
-                number: 1,
-                value: 0,
-            }),
+            refuse(1, 0),
             Word::telex(),
         ),
     };
@@ -86,10 +83,7 @@ fn in_range(w: &Word) -> Result<(), Refusal>
     ensures { result ≡ range_answer w.now }
 {
     if records::lent_out_of_range(w) {
-        Err(Refusal {
-            number: 8,
-            value: 0,
-        })
+        refuse(8, 0)
     } else {
         Ok(())
     }

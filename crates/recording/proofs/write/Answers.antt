@@ -10,7 +10,8 @@ use Rattle.recording.proofs.write.Goals as goal
 
 pub returns-then-not-is_mode : goal.returns-then-not-is_mode
 returns-then-not-is_mode c =
-    no_mode c.args.mode c.args.presses.now c.args.out.now (ap not (sym c.is_mode.ensures ∙ c.if-not-is_mode.true))
+    let e = no_mode c.args.mode c.args.presses.now c.args.out.now (ap not (sym c.is_mode.ensures ∙ c.if-not-is_mode.true)) in
+    (c.refuse.ensures ∙ e.0, e.1)
 
 pub returns-in_err-first_fault : goal.returns-in_err-first_fault
 returns-in_err-first_fault c =
@@ -24,7 +25,8 @@ bytes_needed-needed-requires c =
 
 pub returns-then-out-needed : goal.returns-then-out-needed
 returns-then-out-needed c =
-    too_short c.args.mode c.args.presses.now c.args.out.now (ap not (sym c.is_mode.ensures ∙ c.if-not-is_mode.false)) c.first_fault.ensures c.in_ok-first_fault.was c.bytes_needed-needed.ensures c.if-out-needed.true
+    let e = too_short c.args.mode c.args.presses.now c.args.out.now (ap not (sym c.is_mode.ensures ∙ c.if-not-is_mode.false)) c.first_fault.ensures c.in_ok-first_fault.was c.bytes_needed-needed.ensures c.if-out-needed.true in
+    (c.refuse-then-out-needed.ensures ∙ e.0, e.1)
 
 pub put_drill-requires : goal.put_drill-requires
 put_drill-requires c =

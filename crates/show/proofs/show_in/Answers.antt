@@ -7,7 +7,7 @@ use Rattle.show.proofs.show_in.Goals as goal
 pub returns-then-lent_out_of_range : goal.returns-then-lent_out_of_range
 returns-then-lent_out_of_range c =
     let e = refused c.args.w.now c.args.out.now c.lent_out_of_range.ensures c.if-lent_out_of_range.true in
-    (sym (ap (λ (x : Written). x.answer) e), sym (ap (λ (x : Written). x.output) e))
+    (c.refuse.ensures ∙ sym (ap (λ (x : Written). x.answer) e), sym (ap (λ (x : Written). x.output) e))
 
 pub shared_ref_as_front-text : goal.shared_ref_as_front-text
 shared_ref_as_front-text c = few c.args.w.now c.args.out.now c.lent_out_of_range.ensures c.if-lent_out_of_range.false

@@ -9,7 +9,7 @@ pub returns-then-letters-gt-KEYS : goal.returns-then-letters-gt-KEYS
 returns-then-letters-gt-KEYS c =
     let args = c.args in
     let e = too_many args.letters.now args.tone args.out.now c.if-letters-gt-KEYS.true in
-    (sym (ap (λ (x : Written). x.answer) e), sym (ap (λ (x : Written). x.output) e))
+    (c.refuse.ensures ∙ sym (ap (λ (x : Written). x.answer) e), sym (ap (λ (x : Written). x.output) e))
 
 pub returns-then-out-ge-TEXT : goal.returns-then-out-ge-TEXT
 returns-then-out-ge-TEXT c =

@@ -20,13 +20,13 @@ use Rattle.rules.specs.declared.Word.{Word}
 
 pub returns-in_default : goal.returns-in_default
 returns-in_default c =
-    no_record c.args.lent.now c.args.key (sym (ap is_some (sym c.in_default.is ∙ c.read.ensures))) c.refused.ensures
+    no_record c.args.lent.now c.args.key (sym (ap is_some (sym c.in_default.is ∙ c.read.ensures))) c.refuse.ensures
 
 pub returns-then-numbers_wrong-places_wrong : goal.returns-then-numbers_wrong-places_wrong
 returns-then-numbers_wrong-places_wrong c =
     let bs = c.args.lent.now in
     let w = c.in-Some.w in
-    refuses bs c.args.key (Some c.in-Some.w) (sym c.in-Some.is ∙ c.read.ensures) refl 8 0 c.refused-then-numbers_wrong-places_wrong.ensures
+    refuses bs c.args.key (Some c.in-Some.w) (sym c.in-Some.is ∙ c.read.ensures) refl 8 0 c.refuse-then-numbers_wrong-places_wrong.ensures
     (out_of_range_law w c.args.key (by_numbers w c.numbers_wrong.ensures c.places_wrong.ensures c.if-numbers_wrong-places_wrong.true))
 
 pub slice_bounds-keys_allowed-end : goal.slice_bounds-keys_allowed-end
@@ -40,7 +40,7 @@ pub returns-then-not-keys_allowed : goal.returns-then-not-keys_allowed
 returns-then-not-keys_allowed c =
     let bs = c.args.lent.now in
     let w = c.in-Some.w in
-    refuses bs c.args.key (Some c.in-Some.w) (sym c.in-Some.is ∙ c.read.ensures) refl 8 0 c.refused-then-not-keys_allowed.ensures
+    refuses bs c.args.key (Some c.in-Some.w) (sym c.in-Some.is ∙ c.read.ensures) refl 8 0 c.refuse-then-not-keys_allowed.ensures
     (out_of_range_law w c.args.key (by_keys w c.numbers_wrong.ensures c.places_wrong.ensures c.if-numbers_wrong-places_wrong.false c.keys_allowed.ensures c.if-not-keys_allowed.true))
 
 pub slice_bounds-letters_allowed-end : goal.slice_bounds-letters_allowed-end
@@ -55,7 +55,7 @@ returns-then-not-letters_allowed c =
     let bs = c.args.lent.now in
     let w = c.in-Some.w in
     let own : c.letters_of-letters.result ≡ w.letters = c.letters_of-letters.ensures ∙ sym (ap (λ (x : Option Word). (or_new x).letters) (sym c.in-Some.is ∙ c.read.ensures)) in
-    refuses bs c.args.key (Some c.in-Some.w) (sym c.in-Some.is ∙ c.read.ensures) refl 8 0 c.refused-then-not-letters_allowed.ensures
+    refuses bs c.args.key (Some c.in-Some.w) (sym c.in-Some.is ∙ c.read.ensures) refl 8 0 c.refuse-then-not-letters_allowed.ensures
     (out_of_range_law w c.args.key
     (by_letters w c.numbers_wrong.ensures c.places_wrong.ensures c.if-numbers_wrong-places_wrong.false c.keys_allowed.ensures c.if-not-keys_allowed.false own c.letters_allowed.ensures ∙ ap not c.if-not-letters_allowed.true))
 

@@ -20,7 +20,10 @@ pub fn start(mode: u8) -> Start
         Word::TELEX => (Ok(()), Word::telex()),
         Word::VNI => (Ok(()), Word::vni()),
         _ => (
-            refuse(1, 0),
+            Err(Refusal {
+                number: 1,
+                value: 0,
+            }),
             Word::telex(),
         ),
     };

@@ -19,7 +19,7 @@ returns-then-not-eq c =
     let w = c.args.w.now in
     let eq : c.eq.result ≡ pointwise eqb c.args.text.now (take c.in_room-n.result c.in_room-n.new.out) = search (rules, chains) in
     let same = compared w c.requires c.in_room-n.result _ _ (lit≤ tt) c.in_room-n.ensures.0 c.in_room-n.ensures.1 c.args.text.now eq in
-    other_text w c.args.text.now (same ∙ c.if-not-eq.true)
+    c.refuse.ensures ∙ other_text w c.args.text.now (same ∙ c.if-not-eq.true)
 
 pub returns-in-Keep : goal.returns-in-Keep
 returns-in-Keep c =

@@ -12,17 +12,17 @@ use Rattle.commit.proofs.Answers.{no_mode, too_many, too_long, not_typed, ruled}
 use Rattle.commit.proofs.rule.Goals as goal
 
 pub returns-then-not-is_mode : goal.returns-then-not-is_mode
-returns-then-not-is_mode c = no_mode c.args.mode c.args.keys.now c.args.text.now (ap not (sym c.is_mode.ensures ∙ c.if-not-is_mode.true))
+returns-then-not-is_mode c = c.refuse.ensures ∙ no_mode c.args.mode c.args.keys.now c.args.text.now (ap not (sym c.is_mode.ensures ∙ c.if-not-is_mode.true))
 
 pub returns-then-keys-gt-KEYS : goal.returns-then-keys-gt-KEYS
 returns-then-keys-gt-KEYS c =
     let mode : not (is_mode c.args.mode) ≡ false = ap not (sym c.is_mode.ensures ∙ c.if-not-is_mode.false) in
-    too_many c.args.mode c.args.keys.now c.args.text.now mode c.if-keys-gt-KEYS.true
+    c.refuse-then-keys-gt-KEYS.ensures ∙ too_many c.args.mode c.args.keys.now c.args.text.now mode c.if-keys-gt-KEYS.true
 
 pub returns-then-text-gt-TEXT : goal.returns-then-text-gt-TEXT
 returns-then-text-gt-TEXT c =
     let mode : not (is_mode c.args.mode) ≡ false = ap not (sym c.is_mode.ensures ∙ c.if-not-is_mode.false) in
-    too_long c.args.mode c.args.keys.now c.args.text.now mode c.if-keys-gt-KEYS.false c.if-text-gt-TEXT.true
+    c.refuse-then-text-gt-TEXT.ensures ∙ too_long c.args.mode c.args.keys.now c.args.text.now mode c.if-keys-gt-KEYS.false c.if-text-gt-TEXT.true
 
 pub returns-in_err-all : goal.returns-in_err-all
 returns-in_err-all c =

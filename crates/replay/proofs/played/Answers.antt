@@ -37,7 +37,7 @@ returns-then-out-found c =
     let none : length c.pass.new.out ≡ 0 = omega arith in
     let untouched = none_in_front c.pass.new.out a.out.now none in
     let e = too_short a.recording.now a.out.now c.in_ok-begun.begun (sym c.begin.ensures ∙ c.in_ok-begun.was) c.in_ok-found.found (sym c.pass.ensures.0 ∙ c.in_ok-found.was) (omega (arith, c.if-out-found.true, ap length untouched)) in
-    (sym (ap (λ (r : Replayed). r.result) e), untouched ∙ sym (ap (λ (r : Replayed). r.output) e))
+    (ap told c.refuse.ensures ∙ sym (ap (λ (r : Replayed). r.result) e), untouched ∙ sym (ap (λ (r : Replayed). r.output) e))
 
 pub pass-requires-2 : goal.pass-requires-2
 pass-requires-2 c = sym c.begin.ensures ∙ c.in_ok-begun.was

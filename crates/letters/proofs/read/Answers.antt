@@ -1,5 +1,5 @@
 -- `letters::read` meets its contract: each way out, by the bytes that are left at the place.
-use mathlib.Core.Path.{◌≡◌, sym, ◌∙◌}
+use mathlib.Core.Path.{◌∙◌}
 use native.Mathlib.Omega.{arith}
 use Rattle.letters.proofs.Agrees.{at_front, read_end, read_one, cut_at_one, read_two, cut_at_two, read_three}
 use Rattle.letters.proofs.read.Goals as goal

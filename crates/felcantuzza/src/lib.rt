@@ -37,6 +37,7 @@ fn no_record() -> Refusal
     }
 }
 
+// C's own numbers for what a key did, which no type says: a function, and no `From`.
 fn act_number(act: Act) -> usize
     ensures { result ≡ Calls.in_one (outcome_numbers (Outcome.Acted act)) }
 {

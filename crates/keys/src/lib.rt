@@ -45,6 +45,7 @@ pub fn letter_of_key(key: u8) -> u16
     }
 }
 
+// Two tables of the document, here and in `vni_role`: they have no entry in common.
 fn telex_role(key: u8) -> Role
     ensures { result ≡ role_in telex_roles (lower_of key) }
 {

@@ -216,6 +216,7 @@ impl Play<'_> {
     }
 }
 
+// One line, as in the recorder: nothing more is the same there.
 fn say(rt: &HostRuntime, text: &[u8]) {
     let _ = rt.stderr().write_all(text);
 }

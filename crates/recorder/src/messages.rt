@@ -2,6 +2,7 @@
 use crate::Fault;
 use rules::Refusal;
 
+// One line, as in the player: nothing more is the same there.
 pub(crate) fn say(rt: &HostRuntime, text: &[u8]) {
     let _ = rt.stderr().write_all(text);
 }

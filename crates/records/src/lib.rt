@@ -61,6 +61,7 @@ pub struct Numbers {
     pub appended: u8,
 }
 
+// An entry of its own, by its clause: the definition of a record's numbers is said over them.
 pub fn numbers_of(w: Word) -> Numbers
     ensures { result ≡ numbers_of_of w }
 {
@@ -98,6 +99,7 @@ pub fn lent_out_of_range(w: &Word) -> bool
         || !letters_allowed(w.mode, &w.letters[..w.count as usize])
 }
 
+// An entry of its own: of a record by value.
 pub fn out_of_range(w: Word) -> bool
     ensures { result ≡ out_of_range_of w }
 {

@@ -11,7 +11,7 @@ ghost use Rattle.show.specs.Filling.{tone_if, toned_at, text_from, room_text, te
 
 use rules::{NO_TONE, Refusal, Word, refuse};
 
-// The UTF-8 bytes of a code point from a place of the text on; the place after them. No code point (0) shows nothing.
+// The UTF-8 bytes of a code point from a place of the text on; the place after them. No code point (0) shows nothing. Stored byte by byte: an enum of the bytes between cost 14 instructions a key.
 fn put_point(text: &mut [u8], at: usize, point: u16) -> usize
     requires { at + 3 ≤ length text.old }
     ensures { (result ≡ at + length (bytes_if point)) × (text.new ≡ sets text.old at (bytes_if point)) }

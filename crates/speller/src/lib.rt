@@ -56,7 +56,7 @@ impl ReadSoFar {
         self.count += 1;
     }
 
-    // Not a syllable as shown: 8 if two letters carry a tone; else the verdict 1 to 7; else 9 if the tone stands on another letter; 0 a syllable as shown.
+    // Not a syllable as shown, by the document's numbers: 8 if two letters carry a tone; else the verdict 1 to 7; else 9 if the tone stands on another letter; 0 a syllable as shown.
     fn fault(&self, letters: &[u16]) -> u8
         ensures { (ss : List Sign) (at : ℕ) → self.now ≡ reading_of at ss → map letter letters.now ≡ letters_in ss → result ≡ fault_of ss }
     {
@@ -161,6 +161,7 @@ pub fn spell(mode: u8, text: &[u8], out: &mut [u8]) -> Result<usize, Refusal>
     if Word::TEXT < n {
         return refuse(2, Word::TEXT);
     }
+    // The letters read, their count in the reading: nothing is allocated.
     let mut letters = [0; Word::TEXT];
     let r = read(text, &mut letters);
     if r.at < n {

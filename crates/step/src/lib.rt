@@ -23,7 +23,7 @@ enum Edit {
     Change(Act, Touched),
 }
 
-// A word's state beside its letters.
+// A word's state beside its letters. These stay lent: by value in one struct with it they would be copied.
 #[derive(Clone, Copy)]
 struct Rest {
     count: u8,
@@ -167,7 +167,7 @@ fn second_horn(letters: &mut [u16], rest: Rest, key: u8) -> Touched
     Touched::OneLetter(n - 2)
 }
 
-// What a key does by its role: one that has none is appended.
+// What a key does by its role, one arm for each of the document's roles: one that has none is appended.
 fn key_does(letters: &mut [u16], rest: Rest, mode: u8, key: u8) -> Done
     requires { RoomForLetter letters.old rest.count × AllFine mode (state_in letters.old rest).letters }
     ensures { DoesAsRuled (unless_closed rest.closed (role_of mode key) (state_in letters.old rest) (letter_of_key key)) letters.old result letters.new }

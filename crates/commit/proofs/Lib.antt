@@ -1,4 +1,3 @@
 pub mod Answers
-pub mod Compares
 pub mod Parts
 pub mod One

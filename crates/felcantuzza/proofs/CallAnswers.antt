@@ -1,62 +1,57 @@
 -- What each call says of bytes that are no record, and of a record; what it then returns, writes as its value and leaves in lent bytes.
+use Rattle.std.specs.Prelude.{Option, Some, None, Result, Ok, Err, ⊤, is_some}
+use Rattle.std.specs.Option.{unwrap_or}
 use mathlib.Core.Path.{◌≡◌, refl, sym, ap, ap₂, ◌∙◌}
-use mathlib.Core.Bool.{Bool, true, false}
+use mathlib.Core.Bool.{Bool, true, false, ◌&&◌}
 use mathlib.Core.List.{List, [], ◌∷◌}
-use mathlib.Core.Option.{Option, none, some}
 use Prim.Native.Nat.{ℕ}
 use native.Mathlib.Omega.{arith}
 use borrow.Author.Tests.{eq-eqb, ne_eqb}
 use lib.ListN.{length}
-use Rattle.rules.specs.AnswersInNumbers.{Says, refused, answered, refusing, decision_number, start_says, step_says, write_says, place_says, verdict_says, decision_says}
+use Rattle.rules.specs.AnswersInNumbers.{Says, refused, answered, refusing, place_numbers, decision_number, start_says, step_says, write_says}
 use Rattle.rules.specs.Refusals.{refusal}
 use Rattle.rules.specs.Decision.{decision}
 use Rattle.rules.specs.WhatComesBack as Rules
 use Rattle.rules.specs.declared.Word.{Word}
 use Rattle.rules.specs.declared.Refusal.{Refusal}
 use Rattle.rules.specs.declared.Start.{Start}
-use Rattle.rules.specs.declared.StartAnswer.{StartAnswer}
-use Rattle.rules.specs.declared.StepAnswer.{StepAnswer}
-use Rattle.rules.specs.declared.StepAnswer.TheVariants.{Did as Stepped}
-use Rattle.rules.specs.declared.StepAnswer.TheVariants.{Refused as StepRefused}
 use Rattle.rules.specs.declared.Outcome.{Outcome}
 use Rattle.rules.specs.declared.Decision.{Decision}
 use Rattle.rules.specs.declared.Decision.TheVariants.{Keep as Kept, Restore as Restored}
-use Rattle.rules.specs.declared.WriteAnswer.{WriteAnswer}
-use Rattle.rules.specs.declared.WriteAnswer.TheVariants.{Wrote}
-use Rattle.rules.specs.declared.WriteAnswer.TheVariants.{Refused as WriteRefused}
-use Rattle.rules.specs.declared.PlaceAnswer.{PlaceAnswer}
-use Rattle.rules.specs.declared.VerdictAnswer.{VerdictAnswer}
-use Rattle.rules.specs.declared.DecisionAnswer.{DecisionAnswer}
 use Rattle.rules.proofs.Refused.{refused_show}
-use Rattle.layout.specs.Places.{as_record, record_written}
-use Rattle.layout.specs.declared.RecordRead.{RecordRead}
+use Rattle.layout.specs.Places.{as_record, record_if, is_mark, byte, record_written, is_record, held, or_new}
 use Rattle.step.specs.InPlace.{bytes_after, step_if, step_at}
 use Rattle.press.specs.StepAndShow.{show_or, pressed_or, step_and_show}
 use Rattle.press.specs.declared.StepShown.{StepShown}
-use Rattle.press.specs.declared.ShownAnswer.{ShownAnswer}
-use Rattle.press.specs.declared.ShownAnswer.TheVariants.{Refused as ShownRefused}
 use Rattle.press.proofs.Shows.{refused_so}
 use Rattle.commit.specs.Rulings.{ruling_or, ruling_of}
 use Rattle.commit.specs.Rulings.{decided as ruled}
 use Rattle.commit.specs.declared.Ruling.{Ruling}
-use Rattle.commit.specs.declared.Ruling.TheVariants.{Keep, Restore, Refused}
+use Rattle.commit.specs.declared.Ruling.TheVariants.{Keep, Restore}
 use Rattle.felcantuzza.specs.Calls as Calls
-use Rattle.felcantuzza.specs.Calls.{returned, value_by, in_one, did, unless_refused, of_record, shown_says, commit_or}
+use Rattle.felcantuzza.specs.Calls.{returned, value_by, number_by, only_one, placed, unless_refused, of_record, no_record, shown_says, commit_or}
 
-module _ (one : List ℕ → ℕ) (s : Says) {r v : ℕ} where
-  pub tells : (ns : List ℕ) → s ≡ answered ns → r ≡ 0 → v ≡ one ns → (r ≡ returned s) × (v ≡ value_by one s)
-  tells ns e p q = (p ∙ sym (ap returned e), q ∙ sym (ap (value_by one) e))
+-- a call returns what its answer's number or refusal is
+module _ (one : List ℕ → ℕ) where
+  code : (s : Says) → returned (write_says (number_by one s)) ≡ returned s
+  code (answered ns) = refl
+  code (refused n m) = refl
 
-  pub refuses : (n m : ℕ) → s ≡ refused n m → r ≡ n → v ≡ m → (r ≡ returned s) × (v ≡ value_by one s)
-  refuses n m e p q = (p ∙ sym (ap returned e), q ∙ sym (ap (value_by one) e))
+  value : (s : Says) → value_by only_one (write_says (number_by one s)) ≡ value_by one s
+  value (answered ns) = refl
+  value (refused n m) = refl
 
--- what the key did, of a call that also shows
-module _ (s : Says) where
-  pub outcome_told : (bytes : ℕ) (ns : List ℕ) → s ≡ answered (bytes ∷ ns) → in_one ns ≡ did s
-  outcome_told bytes ns e = sym (ap did e)
+  pub hands : (s : Says) {a : Result ℕ Refusal} {r v : ℕ} → a ≡ number_by one s → r ≡ returned (write_says a) → v ≡ value_by only_one (write_says a) → (r ≡ returned s) × (v ≡ value_by one s)
+  hands s e p q =
+      (p ∙ ap (λ (x : Result ℕ Refusal). returned (write_says x)) e ∙ code s, q ∙ ap (λ (x : Result ℕ Refusal). value_by only_one (write_says x)) e ∙ value s)
 
-  pub no_outcome : (n m : ℕ) → s ≡ refused n m → 0 ≡ did s
-  no_outcome n m e = sym (ap did e)
+pub its_number : (a : Result ℕ Refusal) → a ≡ number_by only_one (write_says a)
+its_number (Ok n) = refl
+its_number (Err x) = refl
+
+pub place_number : (p : Option ℕ) → unwrap_or p 255 ≡ placed (place_numbers p)
+place_number None = refl
+place_number (Some n) = refl
 
 module _ (s : Says) (new old : List ℕ) where
   pub changed : (ns : List ℕ) → s ≡ answered ns → new ≡ unless_refused s new old
@@ -71,150 +66,113 @@ refused_unchanged (answered ns) new old h = absurd (h refl)
 refused_unchanged (refused n m) new old h = refl
 
 module _ (mode : ℕ) (lent : List ℕ) where
-  pub no_room : (length lent ≡ 169 → ⊥) → Calls.start mode lent ≡ refused 8 0
+  pub no_room : (length lent ≡ 169 → ⊥) → Calls.start mode lent ≡ refusing no_record
   unfolding Calls.start
   no_room h = ap (λ (b : Bool). of_record b (start_says (Rules.start mode).answer)) (ne_eqb (length lent) 169 h)
 
-  pub started : length lent ≡ 169 → (s : Start) (a : StartAnswer) → s ≡ Rules.start mode → s.answer ≡ a → Calls.start mode lent ≡ start_says a
+  pub started : length lent ≡ 169 → (s : Start) (a : Result ⊤ Refusal) → s ≡ Rules.start mode → s.answer ≡ a → Calls.start mode lent ≡ start_says a
   unfolding Calls.start
-  started h s a p q = ap₂ (λ (b : Bool) (x : StartAnswer). of_record b (start_says x)) (eq-eqb (length lent) 169 h) (sym (ap (λ (x : Start). x.answer) p) ∙ q)
+  started h s a p q = ap₂ (λ (b : Bool) (x : Result ⊤ Refusal). of_record b (start_says x)) (eq-eqb (length lent) 169 h) (sym (ap (λ (x : Start). x.answer) p) ∙ q)
 
 -- a key typed where the lent bytes lie
 module _ (lent : List ℕ) (key : ℕ) where
-  pub typed : {a x : StepAnswer} → a ≡ (step_at lent key).answer → a ≡ x → Calls.type lent key ≡ step_says x
+  pub typed : {a x : Result Outcome Refusal} → a ≡ (step_at lent key).answer → a ≡ x → Calls.type lent key ≡ step_says x
   unfolding Calls.type step_at
-  typed p q = go (as_record lent).is_record ∙ ap step_says (sym p ∙ q)
+  typed p q = go (is_record lent) ∙ ap step_says (sym p ∙ q)
     where
-      go : (b : Bool) → of_record b (step_says (Rules.step (as_record lent).word key).answer) ≡ step_says (step_if b (as_record lent).word key lent).answer
+      go : (b : Bool) → of_record b (step_says (Rules.step (held lent) key).answer) ≡ step_says (step_if b (held lent) key lent).answer
       go true = refl
       go false = refl
 
   pub typed_bytes : (step_at lent key).bytes ≡ Calls.type_word lent key
   unfolding Calls.type step_at
-  typed_bytes = go (as_record lent).is_record
+  typed_bytes = go (is_record lent)
     where
       new : Word
-      new = (Rules.step (as_record lent).word key).word
+      new = (Rules.step (held lent) key).word
 
-      by_answer : (a : StepAnswer) → bytes_after a new lent ≡ unless_refused (step_says a) (record_written new lent) lent
-      by_answer (Stepped o) = refl
-      by_answer (StepRefused x) = refl
+      by_answer : (a : Result Outcome Refusal) → bytes_after a new lent ≡ unless_refused (step_says a) (record_written new lent) lent
+      by_answer (Ok o) = refl
+      by_answer (Err x) = refl
 
-      go : (b : Bool) → (step_if b (as_record lent).word key lent).bytes ≡ unless_refused (of_record b (step_says (Rules.step (as_record lent).word key).answer)) (record_written new lent) lent
-      go true = by_answer (Rules.step (as_record lent).word key).answer
+      go : (b : Bool) → (step_if b (held lent) key lent).bytes ≡ unless_refused (of_record b (step_says (Rules.step (held lent) key).answer)) (record_written new lent) lent
+      go true = by_answer (Rules.step (held lent) key).answer
       go false = refl
 
-  -- and shown: where the key is refused
-  pub refused_at : (out : List ℕ) (x : Refusal) → (step_at lent key).answer ≡ StepRefused x → Calls.type_and_show lent key out ≡ refusing x
+  -- and shown: where the bytes are not as many as a record's
+  pub not_long : (out : List ℕ) → (length lent ≡ 169 → ⊥) → Calls.type_and_show lent key out ≡ refusing no_record
+  unfolding Calls.type_and_show as_record
+  not_long out h =
+      ap (λ (b : Bool). of_record (is_some (record_if (b && is_mark (byte 3 lent)) lent)) (shown_says (step_and_show (held lent) key out).result.answer)) (ne_eqb (length lent) 169 h)
+
+  -- where the key is refused
+  pub refused_at : (out : List ℕ) (x : Refusal) → (step_at lent key).answer ≡ Err x → Calls.type_and_show lent key out ≡ refusing x
   unfolding Calls.type_and_show step_at
-  refused_at out x = go (as_record lent).is_record
+  refused_at out x = go (is_record lent)
     where
       w : Word
-      w = (as_record lent).word
+      w = (held lent)
 
-      go : (b : Bool) → (step_if b w key lent).answer ≡ StepRefused x → of_record b (shown_says (step_and_show w key out).result.answer) ≡ refusing x
+      go : (b : Bool) → (step_if b w key lent).answer ≡ Err x → of_record b (shown_says (step_and_show w key out).result.answer) ≡ refusing x
       go true e = sym (ap (λ (y : StepShown). shown_says y.answer) (refused_so w key out (Rules.step w key) refl x e).0)
       go false e = ap step_says e
 
--- calls on a record that is read from the lent bytes
-module _ (lent : List ℕ) (r : RecordRead) (e : r ≡ as_record lent) where
-  none_said : {A : Type 0} (says : A → Says) (f : Word → A) → r.is_record ≡ false → of_record (as_record lent).is_record (says (f (as_record lent).word)) ≡ refused 8 0
-  none_said says f n = ap (λ (b : Bool). of_record b (says (f (as_record lent).word))) (sym (ap (λ (x : RecordRead). x.is_record) e) ∙ n)
+-- calls on bytes that are no record, and on a record that is read from them
+module _ (lent : List ℕ) where
+  pub no_word : None ≡ as_record lent → (s : Says) → of_record (is_record lent) s ≡ refusing no_record
+  no_word e s = sym (ap (λ (o : Option Word). of_record (is_some o) s) e)
 
-  said : {A : Type 0} (says : A → Says) (f : Word → A) → r.is_record ≡ true → (a x : A) → a ≡ f r.word → a ≡ x → of_record (as_record lent).is_record (says (f (as_record lent).word)) ≡ says x
-  said says f t a x p q =
-      ap (λ (y : RecordRead). of_record y.is_record (says (f y.word))) (sym e) ∙ ap (λ (b : Bool). of_record b (says (f r.word))) t ∙ ap says (sym p ∙ q)
+  module _ {w : Word} (e : Some w ≡ as_record lent) where
+    pub said : {A : Type 0} (says : A → Says) (f : Word → A) {y : A} → y ≡ f w → says y ≡ of_record (is_record lent) (says (f (held lent)))
+    said says f q = ap says q ∙ ap (λ (o : Option Word). of_record (is_some o) (says (f (or_new o)))) e
 
-  module _ (key : ℕ) (out : List ℕ) where
-    abbrev both : Word → ShownAnswer
-    both w = (step_and_show w key out).result.answer
-
-    pub none_typed_shown : r.is_record ≡ false → Calls.type_and_show lent key out ≡ refused 8 0
-    unfolding Calls.type_and_show
-    none_typed_shown n = none_said shown_says both n
-
-    module _ (s : StepShown) (p : s ≡ (step_and_show r.word key out).result) where
-      pub typed_shown : r.is_record ≡ true → (a : ShownAnswer) → s.answer ≡ a → Calls.type_and_show lent key out ≡ shown_says a
-      unfolding Calls.type_and_show
-      typed_shown t a q = said shown_says both t s.answer a (ap (λ (x : StepShown). x.answer) p) q
-
-      pub typed_shown_word : record_written s.word lent ≡ record_written (step_and_show (as_record lent).word key out).result.word lent
-      typed_shown_word = ap (λ (x : StepShown). record_written x.word lent) (p ∙ ap (λ (y : RecordRead). (step_and_show y.word key out).result) e)
-
-    pub typed_shown_output : (step_and_show r.word key out).output ≡ (step_and_show (as_record lent).word key out).output
-    typed_shown_output = ap (λ (y : RecordRead). (step_and_show y.word key out).output) e
-
-  module _ (out : List ℕ) where
-    abbrev shows : Word → WriteAnswer
-    shows w = (Rules.show w out).answer
-
-    pub none_shown : r.is_record ≡ false → Calls.show lent out ≡ refused 8 0
+    pub shown_output : (out : List ℕ) → (Rules.show w out).output ≡ Calls.show_output lent out
     unfolding Calls.show
-    none_shown n = none_said write_says shows n
+    shown_output out = left (Rules.show w out).answer refl ∙ ap (λ (o : Option Word). unless_refused (of_record (is_some o) (write_says (Rules.show (or_new o) out).answer)) (Rules.show (or_new o) out).output out) e
+      where
+        left : (r : Result ℕ Refusal) → (Rules.show w out).answer ≡ r → (Rules.show w out).output ≡ unless_refused (write_says (Rules.show w out).answer) (Rules.show w out).output out
+        left (Ok n) q = sym (ap (λ (r : Result ℕ Refusal). unless_refused (write_says r) (Rules.show w out).output out) q)
+        left (Err x) q = refused_show w out x (ap write_says q) ∙ sym (ap (λ (r : Result ℕ Refusal). unless_refused (write_says r) (Rules.show w out).output out) q)
 
-    pub shown : r.is_record ≡ true → (a x : WriteAnswer) → a ≡ (Rules.show r.word out).answer → a ≡ x → Calls.show lent out ≡ write_says x
-    unfolding Calls.show
-    shown t a x p q = said write_says shows t a x p q
-
-    pub shown_output : (Rules.show r.word out).output ≡ (Rules.show (as_record lent).word out).output
-    shown_output = ap (λ (y : RecordRead). (Rules.show y.word out).output) e
-
-  pub none_judged : r.is_record ≡ false → Calls.verdict lent ≡ refused 8 0
-  unfolding Calls.verdict
-  none_judged n = none_said verdict_says Rules.verdict_answer n
-
-  pub judged : r.is_record ≡ true → (a x : VerdictAnswer) → a ≡ Rules.verdict_answer r.word → a ≡ x → Calls.verdict lent ≡ verdict_says x
-  unfolding Calls.verdict
-  judged t a x p q = said verdict_says Rules.verdict_answer t a x p q
-
-  pub none_placed : r.is_record ≡ false → Calls.place lent ≡ refused 8 0
-  unfolding Calls.place
-  none_placed n = none_said place_says Rules.place_answer n
-
-  pub placed : r.is_record ≡ true → (a x : PlaceAnswer) → a ≡ Rules.place_answer r.word → a ≡ x → Calls.place lent ≡ place_says x
-  unfolding Calls.place
-  placed t a x p q = said place_says Rules.place_answer t a x p q
-
-  pub none_decided : r.is_record ≡ false → Calls.decision lent ≡ refused 8 0
-  unfolding Calls.decision
-  none_decided n = none_said decision_says Rules.decision_answer n
-
-  pub decided : r.is_record ≡ true → (a x : DecisionAnswer) → a ≡ Rules.decision_answer r.word → a ≡ x → Calls.decision lent ≡ decision_says x
-  unfolding Calls.decision
-  decided t a x p q = said decision_says Rules.decision_answer t a x p q
+-- typing and showing a record
+module _ (lent : List ℕ) (key : ℕ) (out : List ℕ) (t : is_record lent ≡ true) where
+  pub typed_shown : (s : StepShown) → s ≡ (step_and_show (held lent) key out).result → {y : Result (Outcome × ℕ) Refusal} → s.answer ≡ y → Calls.type_and_show lent key out ≡ shown_says y
+  unfolding Calls.type_and_show
+  typed_shown s p q =
+      ap (λ (b : Bool). of_record b (shown_says (step_and_show (held lent) key out).result.answer)) t ∙ ap shown_says (sym (ap (λ (x : StepShown). x.answer) p) ∙ q)
 
 -- typing and showing that is refused leaves the output
-pub refused_both : (w : Word) (key : ℕ) (out : List ℕ) (x : Refusal) → (step_and_show w key out).result.answer ≡ ShownRefused x → (step_and_show w key out).output ≡ out
+pub refused_both : (w : Word) (key : ℕ) (out : List ℕ) (x : Refusal) → (step_and_show w key out).result.answer ≡ Err x → (step_and_show w key out).output ≡ out
 unfolding step_and_show
 refused_both w key out x = by_step (Rules.step w key).answer (Rules.step w key).word
   where
-    by_show : (o : Outcome) (new : Word) (a : WriteAnswer) → (Rules.show new out).answer ≡ a → (show_or a o w new).answer ≡ ShownRefused x → (Rules.show new out).output ≡ out
-    by_show o new (Wrote n) p e = let z : ◌≡◌ {A = ℕ} 0 1 = cc in absurd (omega arith)
-    by_show o new (WriteRefused y) p e = refused_show new out y (ap write_says p)
+    by_show : (o : Outcome) (new : Word) (a : Result ℕ Refusal) → (Rules.show new out).answer ≡ a → (show_or a o w new).answer ≡ Err x → (Rules.show new out).output ≡ out
+    by_show o new (Ok n) p e = let z : ◌≡◌ {A = ℕ} 0 1 = cc in absurd (omega arith)
+    by_show o new (Err y) p e = refused_show new out y (ap write_says p)
 
-    by_step : (a : StepAnswer) (new : Word) → (pressed_or a w new out).result.answer ≡ ShownRefused x → (pressed_or a w new out).output ≡ out
-    by_step (Stepped o) new e = by_show o new (Rules.show new out).answer refl e
-    by_step (StepRefused y) new e = refl
+    by_step : (a : Result Outcome Refusal) (new : Word) → (pressed_or a w new out).result.answer ≡ Err x → (pressed_or a w new out).output ≡ out
+    by_step (Ok o) new e = by_show o new (Rules.show new out).answer refl e
+    by_step (Err y) new e = refl
 
 -- what commit's ruling says
-abbrev pub ruling_says : Ruling → Says
-ruling_says (Keep n) = answered (0 ∷ [])
-ruling_says Restore = answered (1 ∷ [])
-ruling_says (Refused r) = refusing r
+abbrev pub ruling_says : Result Ruling Refusal → Says
+ruling_says (Ok (Keep n)) = answered (0 ∷ [])
+ruling_says (Ok Restore) = answered (1 ∷ [])
+ruling_says (Err r) = refusing r
 
 by_decision : (d : Decision) (text : List ℕ) → answered (decision_number d ∷ []) ≡ ruling_says (ruled d text)
 by_decision Kept text = refl
 by_decision Restored text = refl
 
-pub committed : (mode : ℕ) (keys text : List ℕ) (a x : Ruling) → a ≡ ruling_of mode keys text → a ≡ x → Calls.commit mode keys text ≡ ruling_says x
+pub committed : (mode : ℕ) (keys text : List ℕ) (a x : Result Ruling Refusal) → a ≡ ruling_of mode keys text → a ≡ x → Calls.commit mode keys text ≡ ruling_says x
 unfolding Calls.commit ruling_of
 committed mode keys text a x p q = go (refusal (Rules.commit_call mode keys text)) ∙ ap ruling_says (sym p ∙ q)
   where
     go : (o : Option Refusal) → commit_or o (decision (Rules.typed mode keys)) ≡ ruling_says (ruling_or o mode keys text)
-    go none = by_decision (decision (Rules.typed mode keys)) text
-    go (some y) = refl
+    go None = by_decision (decision (Rules.typed mode keys)) text
+    go (Some y) = refl
 
 -- the speller
-pub spelled : (mode : ℕ) (text out : List ℕ) (a x : WriteAnswer) → a ≡ (Rules.spell mode text out).answer → a ≡ x → Calls.spell mode text out ≡ write_says x
+pub spelled : (mode : ℕ) (text out : List ℕ) {a : Result ℕ Refusal} → a ≡ (Rules.spell mode text out).answer → a ≡ number_by only_one (Calls.spell mode text out)
 unfolding Calls.spell
-spelled mode text out a x p q = ap write_says (sym p ∙ q)
+spelled mode text out p = p ∙ its_number (Rules.spell mode text out).answer

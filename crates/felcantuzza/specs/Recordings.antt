@@ -1,19 +1,16 @@
 -- What each call for recorded drills says, from the answers of `recording` and `replay` and their numbers, and the lent bytes and numbers when it returns.
-use Rattle.std.specs.Prelude.{List, [], ◌∷◌, ℕ}
+use Rattle.std.specs.Prelude.{List, [], ◌∷◌, ℕ, Option, Some, None, Result, Ok, Err}
 use Rattle.rules.specs.AnswersInNumbers.{Says, answered, refusing, write_says}
 use Rattle.recording.specs.Recordings.{step_at}
 use Rattle.recording.specs.Recordings as Recorded
 use Rattle.recording.specs.Drills.{number_of, written_drill}
 use Rattle.recording.specs.declared.Progress.{Progress}
-use Rattle.recording.specs.declared.Press.{Press}
-use Rattle.recording.specs.declared.Press.TheVariants.{Pressed, End}
-use Rattle.recording.specs.declared.Press.TheVariants.{Refused as PressRefused}
-use Rattle.recording.specs.declared.BeginAnswer.{BeginAnswer}
-use Rattle.recording.specs.declared.BeginAnswer.TheVariants.{Begins}
-use Rattle.recording.specs.declared.BeginAnswer.TheVariants.{Refused as BeginRefused}
 use Rattle.replay.specs.Replays.{replayed}
 use Rattle.replay.specs.declared.Summary.{Summary}
 use Rattle.felcantuzza.specs.Calls.{unless_refused}
+use Rattle.rules.specs.declared.Refusal.{Refusal}
+use Rattle.recording.specs.declared.Begun.{Begun}
+use Rattle.recording.specs.declared.KeyPress.{KeyPress}
 
 -- The writer: the bytes written.
 unfoldable pub record_drill : ℕ → List ℕ → List ℕ → Says
@@ -23,13 +20,13 @@ abbrev pub record_output : ℕ → List ℕ → List ℕ → List ℕ
 record_output mode presses out = unless_refused (record_drill mode presses out) (written_drill mode presses out).output out
 
 -- What stands in front of all presses: the mode, and the place behind it; a refused call leaves the place.
-abbrev pub begin_says : BeginAnswer → Says
-begin_says (Begins b) = answered (b.progress.mode ∷ [])
-begin_says (BeginRefused r) = refusing r
+abbrev pub begin_says : Result Begun Refusal → Says
+begin_says (Ok b) = answered (b.progress.mode ∷ [])
+begin_says (Err r) = refusing r
 
-abbrev pub place_after : BeginAnswer → ℕ → ℕ
-place_after (Begins b) old = b.at
-place_after (BeginRefused r) old = old
+abbrev pub place_after : Result Begun Refusal → ℕ → ℕ
+place_after (Ok b) old = b.at
+place_after (Err r) old = old
 
 unfoldable pub begin : List ℕ → Says
 begin s = begin_says (Recorded.begin s)
@@ -38,10 +35,10 @@ abbrev pub begin_at : List ℕ → ℕ → ℕ
 begin_at s old = place_after (Recorded.begin s) old
 
 -- One press: its key and 256 times its milliseconds, and 0 at the end, where no press is: there is no key 0.
-abbrev pub press_says : Press → Says
-press_says (Pressed x) = answered (number_of x ∷ [])
-press_says End = answered (0 ∷ [])
-press_says (PressRefused r) = refusing r
+abbrev pub press_says : Result (Option KeyPress) Refusal → Says
+press_says (Ok (Some x)) = answered (number_of x ∷ [])
+press_says (Ok None) = answered (0 ∷ [])
+press_says (Err r) = refusing r
 
 abbrev pub so_far : (mode in_word milliseconds : ℕ) → Progress
 so_far mode n ms = record { mode = mode; in_word = n; milliseconds = ms }

@@ -7,7 +7,6 @@ ghost use Rattle.rules.specs.TheWord.{at_front};
 ghost use Rattle.stream.specs.Feeding.{feeding, room_for, fed_of};
 
 use lines::Program;
-use rules::WriteAnswer;
 use std::io;
 use std::io::{ErrorKind, Read};
 use std::process::ExitCode;
@@ -18,46 +17,22 @@ const BLOCK: usize = 16384;
 
 const OUTPUT: usize = 512 + 12 * BLOCK;
 
-// The exit status where nobody reads the answers any more: a shell's for a program that SIGPIPE ended. The signal itself is
-// passed over before main begins, and the write fails.
-const UNREAD: u8 = 141;
-
-// What follows a read: more of the input, its end, or a failure.
-#[derive(Clone, Copy)]
-enum Next {
-    More,
-    Ended,
-    Failed(io::Error),
-}
-
-#[derive(Clone, Copy)]
-struct Passed {
-    state: Begun,
-    next: Next,
-}
-
 fn complain(rt: &HostRuntime, program: Program, failed: &[u8]) {
-    match program {
-        Program::Drill => {
-            let _ = rt.stderr().write_all(b"drill: cannot ");
-        }
-        Program::DrillWithKeys => {
-            let _ = rt.stderr().write_all(b"drill: cannot ");
-        }
-        Program::Spell => {
-            let _ = rt.stderr().write_all(b"spell: cannot ");
-        }
-    }
+    let name = match program {
+        Program::Drill | Program::DrillWithKeys => b"drill: cannot ",
+        Program::Spell => b"spell: cannot ",
+    };
+    let _ = rt.stderr().write_all(name);
     let _ = rt.stderr().write_all(failed);
 }
 
 // Who reads the answers may stop: that is no fault, and nothing is said of it.
 fn written(rt: &HostRuntime, program: Program, text: &[u8]) -> io::Result<()> {
     let all = rt.stdout().write_all(text);
-    if let Err(e) = all {
-        if e.kind() != ErrorKind::BrokenPipe {
-            complain(rt, program, b"write\n");
-        }
+    if let Err(e) = all
+        && e.kind() != ErrorKind::BrokenPipe
+    {
+        complain(rt, program, b"write\n");
     }
     all
 }
@@ -71,64 +46,48 @@ fn feed(state: Begun, block: &[u8], out: &mut [u8]) -> Fed
 }
 
 // The answers to a block, and the state after all of it.
-fn answer(rt: &HostRuntime, state: Begun, block: &[u8], out: &mut [u8]) -> Passed
+fn answer(rt: &HostRuntime, state: &mut Begun, block: &[u8], out: &mut [u8]) -> io::Result<()>
     requires { room_for (length block.now) ≤ length out.old }
-    ensures { result.state ≡ (feeding state block.now (length out.old)).state }
+    ensures { state.new ≡ (feeding state.old block.now (length out.old)).state }
 {
     let program = state.program;
-    let fed = feed(state, block, out);
-    let after = fed.state;
-    let n = fed.written;
-    let next = match written(rt, program, &out[0..n]) {
-        Ok(()) => Next::More,
-        Err(e) => Next::Failed(e),
-    };
-    Passed {
-        state: after,
-        next: next,
-    }
+    let fed = feed(*state, block, out);
+    *state = fed.state;
+    written(rt, program, &out[..fed.written])
 }
 
-// The answers to what a read brought, and the state after all of it.
+// The answers to what a read brought, and the state after all of it; whether the input goes on.
 fn pass(
     rt: &HostRuntime,
-    state: Begun,
+    state: &mut Begun,
     got: io::Result<usize>,
     block: &[u8],
     out: &mut [u8],
-) -> Passed
+) -> io::Result<bool>
     requires { room_for (length block.now) ≤ length out.old }
-    ensures read { IfOk got (λ n. result.state ≡ (feeding state (take (min n (length block.now)) block.now) (length out.old)).state) }
-    ensures failed { OnErr got (result.state ≡ state) }
+    ensures read { IfOk got (λ n. state.new ≡ (feeding state.old (take (min n (length block.now)) block.now) (length out.old)).state) }
+    ensures failed { OnErr got (state.new ≡ state.old) }
 {
-    let brought = match got {
-        Ok(n) => n,
-        Err(e) => {
-            let program = state.program;
-            complain(rt, program, b"read\n");
-            return Passed {
-                state: state,
-                next: Next::Failed(e),
-            };
+    match got {
+        Ok(0) => Ok(false),
+        Ok(n) => {
+            answer(rt, state, &block[..n.min(block.len())], out)?;
+            Ok(true)
         }
-    };
-    if brought == 0 {
-        return Passed {
-            state: state,
-            next: Next::Ended,
-        };
+        Err(e) => {
+            complain(rt, state.program, b"read\n");
+            Err(e)
+        }
     }
-    let n = brought.min(block.len());
-    answer(rt, state, &block[..n], out)
 }
 
 // A last line without a newline.
 fn end(rt: &HostRuntime, state: Begun, out: &mut [u8]) -> io::Result<()> {
     let program = state.program;
-    let WriteAnswer::Wrote(n) = stream::finish(state, out) else {
+    let Ok(n) = stream::finish(state, out) else {
         return Ok(());
     };
-    written(rt, program, &out[0..n])
+    written(rt, program, &out[..n])
 }
 
 // Nothing says that the input ends, so the loop counts its turns, to a number that no run uses up.
@@ -138,39 +97,28 @@ fn passes(rt: &HostRuntime, program: Program, block: &mut [u8], out: &mut [u8]) 
     let mut state = Begun::new(program);
     for _ in 0..u64::MAX {
         let got = rt.stdin().read(block);
-        let read = pass(rt, state, got, block, out);
-        let next = read.next;
-        if let Next::Ended = next {
-            return end(rt, read.state, out);
+        if !pass(rt, &mut state, got, block, out)? {
+            return end(rt, state, out);
         }
-        if let Next::Failed(e) = next {
-            return Err(e);
-        }
-        state = read.state;
     }
     Ok(())
 }
 
-// The exit status of a run that could not read or write on.
-fn failed(e: io::Error) -> ExitCode {
-    if e.kind() == ErrorKind::BrokenPipe {
-        return ExitCode::from(UNREAD);
-    }
-    ExitCode::FAILURE
+// The header, and the answers to all of the input.
+fn answer_all(rt: &HostRuntime, program: Program) -> io::Result<()> {
+    let mut block = [0; BLOCK];
+    let mut out = [0; OUTPUT];
+    let Ok(n) = stream::header(program, &mut out) else {
+        return Ok(());
+    };
+    written(rt, program, &out[..n])?;
+    passes(rt, program, &mut block, &mut out)
 }
 
 // The whole run of a program, and its exit status. No contract can say what is read and written.
 pub fn run(rt: &HostRuntime, program: Program) -> ExitCode {
-    let mut block = [0; BLOCK];
-    let mut out = [0; OUTPUT];
-    let WriteAnswer::Wrote(n) = stream::header(program, &mut out) else {
-        return ExitCode::SUCCESS;
-    };
-    if let Err(e) = written(rt, program, &out[0..n]) {
-        return failed(e);
-    }
-    match passes(rt, program, &mut block, &mut out) {
+    match answer_all(rt, program) {
         Ok(()) => ExitCode::SUCCESS,
-        Err(e) => failed(e),
+        Err(e) => ending::status(e),
     }
 }

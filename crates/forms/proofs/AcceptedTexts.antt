@@ -1,4 +1,5 @@
 -- The speller accepts exactly the shown texts of valid syllables: what it reads without a fault is one, and each is read so and spelled.
+use Rattle.std.specs.Prelude.{Ok}
 use mathlib.Core.Path.{◌≡◌, refl, sym, ap, subst, ◌∙◌}
 use mathlib.Core.Bool.{not}
 use mathlib.Core.List.{List}
@@ -12,7 +13,6 @@ use Rattle.rules.specs.CodePoints.{Sign, bytes, shown}
 use Rattle.rules.specs.Speller.{Reading, reading, stuck_at, read, letters_in, tone_in, fault, standard_keys}
 use Rattle.rules.specs.Refusals.{is_mode, is_stuck, fault_of}
 use Rattle.rules.specs.WhatComesBack.{spell}
-use Rattle.rules.specs.declared.WriteAnswer.TheVariants.{Wrote}
 use Rattle.rules.specs.Syllables.{Syllable, open_word, ShownBySyllable}
 use Rattle.forms.specs.Spelling.{AcceptedText, written_keys, Writes}
 use Rattle.forms.proofs.StandardList.{standard_list}
@@ -48,7 +48,7 @@ shown_by : (text : List ℕ) (r : Reading) → read text ≡ r → T (not (is_st
 shown_by text (reading ss) e k f = let a = only_shown text ss e f in record { letters = letters_in ss; tone = tone_in ss; syllable = a.syllable; as_shown = a.text_is }
 shown_by text (stuck_at _) e k f = elim k [ ]
 
-pub spelled_shown : (m : ℕ) (text out : List ℕ) {n : ℕ} → (spell m text out).answer ≡ Wrote n → ShownBySyllable text
+pub spelled_shown : (m : ℕ) (text out : List ℕ) {n : ℕ} → (spell m text out).answer ≡ Ok n → ShownBySyllable text
 spelled_shown m text out e = let a = written_accepts m text out e in shown_by text (read text) refl a.not_stuck a.faultless
 
 -- Both together: with room for 9 keys, in a mode that exists, the speller writes exactly where the text is the shown text of a valid syllable.
@@ -56,7 +56,7 @@ pub exactly_shown : (m : ℕ) → T (is_mode m) → (text out : List ℕ) → 9 
 unfolding Writes
 exactly_shown m mode text out room = (λ (n, e). spelled_shown m text out e, λ s. back s)
   where
-    back : ShownBySyllable text → (n : ℕ) × ((spell m text out).answer ≡ Wrote n)
+    back : ShownBySyllable text → (n : ℕ) × ((spell m text out).answer ≡ Ok n)
     back s =
         let ks = standard_keys m s.letters s.tone in
         let e = shown_spelled m mode s.letters s.tone s.syllable out (omega (arith, (standard_list m mode s.letters s.tone s.syllable).short)) in

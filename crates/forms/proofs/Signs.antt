@@ -1,4 +1,5 @@
 -- The letters of each valid syllable as shown: of the alphabet, with the tone on a vowel letter; its letters and its tone are found in them again.
+use Rattle.std.specs.Prelude.{Option, Some, None}
 use mathlib.Core.Path.{◌≡◌, refl, sym, ap, subst, ◌∙◌}
 use mathlib.Core.Bool.{Bool, true, false, not, ◌&&◌, ◌||◌}
 use mathlib.Core.List.{List, [], ◌∷◌}
@@ -11,8 +12,6 @@ use Rattle.rules.specs.TakingApart.{vowel, implies, initial, nucleus, final, lef
 use Rattle.rules.specs.TonePlace.{place_within, place_unless, tone_place}
 use Rattle.rules.specs.CodePoints.{Sign, sign, without_tone, tone_at, signs_at, signs}
 use Rattle.rules.specs.Speller.{letters_in, tones_in, first_tone, tone_in, two_tones}
-use Rattle.rules.specs.declared.Place.{Place}
-use Rattle.rules.specs.declared.Place.TheVariants.{At, Nowhere}
 use Rattle.letters.specs.Alphabet.{in_alphabet}
 use Rattle.forms.specs.Forms.{all_forms, every, EveryForm}
 use Rattle.rules.specs.Syllables.{Syllable}
@@ -71,9 +70,9 @@ with_tone x t m h v =
     in_case_law x t (six_tones (λ n. T (both_known n b sh)) (search and_l) (search and_l) (search (and_l, and_r)) (search (and_l, and_r)) (search (and_l, and_r)) (search (and_l, and_r)) t m)
 
 -- the letter on which the tone is shown is a vowel letter: computed over the forms, of a tone that is there
-abbrev on_vowel : Place → Letters → Bool
-on_vowel (At n) w = vowel_at n w
-on_vowel Nowhere w = false
+abbrev on_vowel : Option ℕ → Letters → Bool
+on_vowel (Some n) w = vowel_at n w
+on_vowel None w = false
 
 abbrev placed : Letters → Bool
 placed w = on_vowel (tone_place w acute) w
@@ -87,7 +86,7 @@ unfolding tone_place
 same_place w t h =
     ap (λ (b : Bool). place_unless (b || is_nil (nucleus w)) (length (initial w) + place_within (nucleus w) (is_nil (final w) && is_nil (leftovers w)))) (is_false (eqb t no_tone) h)
 
-no_place : (w : Letters) → tone_place w no_tone ≡ Nowhere
+no_place : (w : Letters) → tone_place w no_tone ≡ None
 unfolding tone_place
 no_place w = refl
 
@@ -99,17 +98,17 @@ data AsShown (w : Letters) (t : ℕ) : List Sign → Type 0 where
 as_shown : (w : Letters) (t : ℕ) → verdict w t ≡ 0 → AsShown w t (signs w t)
 as_shown w t v = go (eqb t no_tone) refl
   where
-    at_place : (p : Place) → T (not (eqb t no_tone)) → T (on_vowel p w) → AsShown w t (signs_at p t w)
-    at_place (At n) h k = toned n h k
-    at_place Nowhere h k = elim k [ ]
+    at_place : (p : Option ℕ) → T (not (eqb t no_tone)) → T (on_vowel p w) → AsShown w t (signs_at p t w)
+    at_place (Some n) h k = toned n h k
+    at_place None h k = elim k [ ]
 
     go : (b : Bool) → eqb t no_tone ≡ b → AsShown w t (signs w t)
     go true e =
         let z : t ≡ no_tone = eqb→eq t no_tone (subst T (sym e) tt) in
-        subst (λ (p : Place). AsShown w t (signs_at p t w)) (sym (ap (tone_place w) z ∙ no_place w)) (bare z)
+        subst (λ (p : Option ℕ). AsShown w t (signs_at p t w)) (sym (ap (tone_place w) z ∙ no_place w)) (bare z)
     go false e =
         let h : T (not (eqb t no_tone)) = subst (λ (b : Bool). T (not b)) (sym e) tt in
-        subst (λ (p : Place). AsShown w t (signs_at p t w)) (sym (same_place w t h)) (at_place (tone_place w acute) h (each_valid placed every_placed w t v))
+        subst (λ (p : Option ℕ). AsShown w t (signs_at p t w)) (sym (same_place w t h)) (at_place (tone_place w acute) h (each_valid placed every_placed w t v))
 
 -- each is of the alphabet
 plain_known : (w : Letters) → T (each_letter known w) → T (all_in_alphabet (without_tone w))
@@ -145,9 +144,9 @@ toned_letters (suc n) t (x ∷ w) = ap (◌∷◌ x) (toned_letters n t w)
 pub letters_back : (w : Letters) (t : ℕ) → letters_in (signs w t) ≡ w
 letters_back w t = go (tone_place w t)
   where
-    go : (p : Place) → letters_in (signs_at p t w) ≡ w
-    go (At n) = toned_letters n t w
-    go Nowhere = plain_letters w
+    go : (p : Option ℕ) → letters_in (signs_at p t w) ≡ w
+    go (Some n) = toned_letters n t w
+    go None = plain_letters w
 
 -- and their one tone, if any, is the word's
 no_tones : (w : Letters) → tones_in (without_tone w) ≡ []

@@ -1,8 +1,8 @@
 -- When the speller refuses nothing: the mode exists, the text is short enough and read with no fault, and the output has room.
+use Rattle.std.specs.Prelude.{Option, Some, None, Ok}
 use mathlib.Core.Path.{◌≡◌, refl, ap}
 use mathlib.Core.Bool.{not}
 use mathlib.Core.List.{List, [], ◌∷◌}
-use mathlib.Core.Option.{Option, none, some}
 use Prim.Native.Nat.{ℕ, ◌*◌, ◌≤◌}
 use native.Mathlib.Omega.{arith}
 use lib.Dec.{T, eqb, eqb→eq, nltb→le, lit≤}
@@ -15,7 +15,6 @@ use Rattle.rules.specs.Speller.{read, letters_in, key_of_letter}
 use Rattle.rules.specs.Refusals.{is_mode, is_stuck, fault_of, table, refusal, NoneHolds, no_rows, not_this}
 use Rattle.rules.specs.WhatComesBack.{keys_of, spell_call, write_or, spell}
 use Rattle.rules.specs.declared.Refusal.{Refusal}
-use Rattle.rules.specs.declared.WriteAnswer.TheVariants.{Wrote}
 use Rattle.rules.proofs.Range.{not_not, twice, not_over}
 use Rattle.rules.proofs.Refused.{refusal_none}
 use Rattle.rules.specs.Syllables.{Syllable, open_word}
@@ -57,11 +56,11 @@ accepts_rows m text out (not_this range (not_this mode (not_this keys (not_this 
       room = nltb→le (length out) (length (keys_of m (read text))) room;
     }
 
-wrote : (o : Option Refusal) (keys out : List ℕ) {n : ℕ} → (write_or o keys out).answer ≡ Wrote n → o ≡ none
-wrote none keys out e = refl
-wrote (some r) keys out e = let z : ◌≡◌ {A = ℕ} 0 1 = cc in absurd (omega arith)
+wrote : (o : Option Refusal) (keys out : List ℕ) {n : ℕ} → (write_or o keys out).answer ≡ Ok n → o ≡ None
+wrote None keys out e = refl
+wrote (Some r) keys out e = let z : ◌≡◌ {A = ℕ} 0 1 = cc in absurd (omega arith)
 
-pub written_accepts : (m : ℕ) (text out : List ℕ) {n : ℕ} → (spell m text out).answer ≡ Wrote n → Accepts m text out
+pub written_accepts : (m : ℕ) (text out : List ℕ) {n : ℕ} → (spell m text out).answer ≡ Ok n → Accepts m text out
 unfolding spell
 written_accepts m text out e = accepts_rows m text out ((refusal_none (spell_call m text out)).0 (wrote (refusal (spell_call m text out)) (keys_of m (read text)) out e))
 

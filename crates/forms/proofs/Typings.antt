@@ -1,8 +1,8 @@
 -- Each valid syllable, in both modes: its bare letters typed, its marks on them, and its standard list typed, from the computed tests.
+use Rattle.std.specs.Prelude.{Option, Ok}
 use mathlib.Core.Path.{◌≡◌, refl, sym, ap, subst, ◌∙◌}
 use mathlib.Core.Bool.{Bool, true, false, ◌&&◌}
 use mathlib.Core.List.{List, [], ◌∷◌, ◌++◌, map}
-use mathlib.Core.Option.{Option}
 use Prim.Native.Nat.{ℕ, ◌+◌, ◌≤◌}
 use native.Mathlib.Omega.{arith}
 use lib.Dec.{T, eqb, leb, leb→le}
@@ -18,7 +18,6 @@ use Rattle.rules.specs.Speller.{letter_keys, tone_keys, standard_keys}
 use Rattle.rules.specs.Refusals.{all, is_mode, no_rows, not_this}
 use Rattle.rules.specs.WhatComesBack.{typed, type_call, type_or, type_all}
 use Rattle.rules.specs.declared.Refusal.{Refusal}
-use Rattle.rules.specs.declared.TypeAnswer.TheVariants.{AllTyped}
 use Rattle.rules.specs.declared.Role.{Role}
 use Rattle.rules.specs.declared.Decision.TheVariants.{Keep}
 use Rattle.rules.proofs.Tests.{or_r}
@@ -50,7 +49,7 @@ keeps_valid m ks v =
     go true t = refl
     go false t = elim t [ ]
 
-not_refused : (m : ℕ) (ks : List ℕ) → T (is_mode m) → T (all (is_key m) ks) → length ks ≤ 9 → type_all m ks ≡ record { answer = AllTyped; word = holding (new_word m) (typed m ks) }
+not_refused : (m : ℕ) (ks : List ℕ) → T (is_mode m) → T (all (is_key m) ks) → length ks ≤ 9 → type_all m ks ≡ record { answer = Ok tt; word = holding (new_word m) (typed m ks) }
 unfolding type_all
 not_refused m ks mode a n =
     ap (λ (o : Option Refusal). type_or o m ks)

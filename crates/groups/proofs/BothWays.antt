@@ -1,8 +1,8 @@
 -- A number's groups are read as the number, whatever stands behind them; and the number that is read at the front of bytes is written as the bytes that it was read from.
+use Rattle.std.specs.Prelude.{Option, Some}
 use mathlib.Core.Path.{◌≡◌, refl, sym, ap, ap₂, ◌∙◌}
 use mathlib.Core.Bool.{Bool, true, false}
 use mathlib.Core.List.{List, [], ◌∷◌, ◌++◌}
-use mathlib.Core.Option.{Option, some}
 use Prim.Native.Nat.{ℕ, zero, suc, ◌+◌, ◌*◌, ◌/◌, ◌%◌, ◌^◌, ◌≤◌, ◌<◌}
 use native.Mathlib.Omega.{arith}
 use borrow.Author.Tests.{ltb-true, ltb-false}
@@ -22,7 +22,7 @@ stands_written (suc k) n rest h below = go (ltb n 128) refl (stands_written k (n
     go true t s = last (ltb-true n 128 t)
     go false t s = let large = ltb-false n 128 t in more {b = 128 + n % 128} {v = n} (omega arith) s (omega arith) (omega arith) below
 
-pub number_back : (n : ℕ) → n < 4294967296 → (rest : List ℕ) → number (written n ++ rest) ≡ some (record { value = n; groups = length (written n) })
+pub number_back : (n : ℕ) → n < 4294967296 → (rest : List ℕ) → number (written n ++ rest) ≡ Some (record { value = n; groups = length (written n) })
 unfolding number written
 number_back n h rest = is_read (stands_written 4 n rest (omega arith) h)
 
@@ -45,7 +45,7 @@ as_before (more {b = b} {v = v} {w = w} {g = g} {bs = bs} h s one e below) (suc 
     let byte : b ≡ 128 + b % 128 = omega (arith, t 0) in
     ap₂ ◌∷◌ byte (as_before s j (omega arith) (λ i. t (suc i))) ∙ ap (λ (gs : List ℕ). gs ++ drop g bs) (sym (grouped j v b w one e))
 
-module _ (bs : List ℕ) (n : Number) (e : number bs ≡ some n) where
+module _ (bs : List ℕ) (n : Number) (e : number bs ≡ Some n) where
   here : Stands 5 bs n.value n.groups
   unfolding number
   here = stands 5 bs n e

@@ -3,7 +3,7 @@
 
 ghost use Rattle.std.specs.Prelude.{◌≡◌};
 ghost use Rattle.rules.specs.TheWord.{number};
-ghost use Rattle.rules.specs.KeyRoles.{is_small as is_small_of, is_capital as is_capital_of, is_digit as is_digit_of, is_key as is_key_of, lower as lower_of, letter_of_key as letter_of_key_of, role_in, telex_roles, vni_roles, role as role_of};
+ghost use Rattle.rules.specs.KeyRoles.{is_small as is_small_of, is_digit as is_digit_of, is_key as is_key_of, lower as lower_of, letter_of_key as letter_of_key_of, role_in, telex_roles, vni_roles, role as role_of};
 ghost use Rattle.rules.specs.Refusals.{is_mode as is_mode_of};
 
 use rules::{ACUTE, CAPITAL, DOT, GRAVE, HOOK, Role, ShapeKey, TILDE, ToneKey, Word};
@@ -12,48 +12,40 @@ use rules::{ACUTE, CAPITAL, DOT, GRAVE, HOOK, Role, ShapeKey, TILDE, ToneKey, Wo
 pub fn is_mode(mode: u8) -> bool
     ensures { result ≡ is_mode_of mode }
 {
-    (mode == Word::TELEX) | (mode == Word::VNI)
+    matches!(mode, Word::TELEX | Word::VNI)
 }
 
 pub fn is_small(key: u8) -> bool
     ensures { result ≡ is_small_of key }
 {
-    (b'a' <= key) & (key <= b'z')
-}
-
-fn is_capital(key: u8) -> bool
-    ensures { result ≡ is_capital_of key }
-{
-    (b'A' <= key) & (key <= b'Z')
+    key.is_ascii_lowercase()
 }
 
 pub fn is_digit(key: u8) -> bool
     ensures { result ≡ is_digit_of key }
 {
-    (b'0' <= key) & (key <= b'9')
+    key.is_ascii_digit()
 }
 
 // Keys: a letter A-Z, a-z, in VNI also 0-9.
 pub fn is_key(mode: u8, key: u8) -> bool
     ensures { result ≡ is_key_of mode key }
 {
-    if is_small(key) {
-        return true;
-    }
-    is_capital(key) | ((mode == Word::VNI) & is_digit(key))
+    key.is_ascii_alphabetic() || (mode == Word::VNI && key.is_ascii_digit())
 }
 
 // A key appended is a plain letter in its own case.
 pub fn letter_of_key(key: u8) -> u16
     ensures { result ≡ number (letter_of_key_of key) }
 {
-    if is_capital(key) {
-        (key as u16) + 32 + CAPITAL
+    if key.is_ascii_uppercase() {
+        u16::from(key.to_ascii_lowercase()) + CAPITAL
     } else {
-        key as u16
+        u16::from(key)
     }
 }
 
+// Two tables of the document, here and in `vni_role`: they have no entry in common.
 fn telex_role(key: u8) -> Role
     ensures { result ≡ role_in telex_roles (lower_of key) }
 {

@@ -1,4 +1,5 @@
 -- The answers of read and write by their tests; the record that read finds is that of the bytes, and the bytes that write leaves are the record's.
+use Rattle.std.specs.Prelude.{Option, Some, None}
 use mathlib.Core.Path.{◌≡◌, refl, sym, ap, ap₂, ◌∙◌}
 use mathlib.Core.Bool.{Bool, true, false, ◌&&◌, ◌||◌}
 use mathlib.Core.List.{List, [], ◌∷◌, ◌++◌, append_assoc}
@@ -7,13 +8,12 @@ use native.Mathlib.Omega.{arith}
 use borrow.Author.Tests.{eq-eqb, ne_eqb}
 use borrow.Rule.Slice.PartMut.{put_mid}
 use mir.Val.{bool_byte}
-use lib.ListN.{length, drop, set, length-append, length-take, length-drop, length-set, drop_of_length-le}
+use lib.ListN.{length, drop, set, length-append, length-take, length-drop, drop_of_length-le}
 use lib.Seq.{take_at, drop_at, drop-cons, drop-drop, set_at}
 use Rattle.rules.specs.declared.Word.{Word}
 use Rattle.rules.proofs.StaysInRange.{Whole}
 use Rattle.layout.proofs.Pairs.{length_pairs}
-use Rattle.layout.specs.declared.RecordRead.{RecordRead}
-use Rattle.layout.specs.Places.{pairs, numbers, mark_byte, as_bytes, byte, part, is_long, is_mark, word_from, no_record, record_if, as_record, record_written_if, record_written}
+use Rattle.layout.specs.Places.{pairs, numbers, mark_byte, as_bytes, byte, part, is_long, is_mark, word_from, record_if, as_record, record_written_if, record_written, held, or_new}
 
 -- a record with another mark, other arrays and another place of the tone's key
 abbrev pub with_parts : Word → Bool → List ℕ → List ℕ → List ℕ → List ℕ → ℕ → Word
@@ -49,7 +49,7 @@ pub no_mark : (m : ℕ) → 1 < m → is_mark m ≡ false
 no_mark m h = ap₂ ◌||◌ (ne_eqb m 0 (λ e. omega arith)) (ne_eqb m 1 (λ e. omega arith))
 
 module _ (bs : List ℕ) where
-  pub another_length : (length bs ≡ 169 → ⊥) → no_record ≡ as_record bs
+  pub another_length : (length bs ≡ 169 → ⊥) → None ≡ as_record bs
   unfolding as_record
   another_length h = sym (ap (λ (b : Bool). record_if (b && is_mark (byte 3 bs)) bs) (ne_eqb (length bs) 169 h))
 
@@ -58,21 +58,17 @@ module _ (bs : List ℕ) where
     unfolding as_record
     marked b e = ap₂ (λ (l m : Bool). record_if (l && m) bs) (eq-eqb (length bs) 169 long) e
 
-    pub another_mark : 1 < byte 3 bs → no_record ≡ as_record bs
+    pub another_mark : 1 < byte 3 bs → None ≡ as_record bs
     another_mark h = sym (marked false (no_mark (byte 3 bs) h))
 
-    pub letters_read : byte 3 bs ≤ 1 → numbers (part 40 64 bs) ≡ (as_record bs).word.letters
-    letters_read h = sym (ap (λ (r : RecordRead). r.word.letters) (marked true (is_mark_law (byte 3 bs) h)))
+    pub letters_read : byte 3 bs ≤ 1 → numbers (part 40 64 bs) ≡ (held bs).letters
+    letters_read h = sym (ap (λ (r : Option Word). (or_new r).letters) (marked true (is_mark_law (byte 3 bs) h)))
 
     pub all_read : {keys letters by shaped : List ℕ} → byte 3 bs ≤ 1 → keys ≡ part 8 32 bs → letters ≡ numbers (part 40 64 bs) →
         by ≡ part 104 32 bs → shaped ≡ part 136 32 bs →
-        record { is_record = true; word = with_parts (word_from bs) (word_from bs).closed keys letters by shaped (word_from bs).toned_by } ≡ as_record bs
+        Some (with_parts (word_from bs) (word_from bs).closed keys letters by shaped (word_from bs).toned_by) ≡ as_record bs
     all_read h p q r s =
-        (λ j.
-        record {
-          is_record = true;
-          word = with_parts (word_from bs) (word_from bs).closed (p j) (q j) (r j) (s j) (word_from bs).toned_by;
-        }) ∙
+        (λ j. Some (with_parts (word_from bs) (word_from bs).closed (p j) (q j) (r j) (s j) (word_from bs).toned_by)) ∙
         sym (marked true (is_mark_law (byte 3 bs) h))
 
 -- the eight numbers, written one by one
@@ -98,9 +94,6 @@ head_of w = w.mode ∷ w.count ∷ w.tone ∷ mark_byte w.closed ∷ w.typed ∷
 abbrev pub headed : Word → List ℕ → List ℕ
 headed w l =
     set (set (set (set (set (set (set (set l 0 w.mode) 1 w.count) 2 w.tone) 3 (bool_byte w.closed)) 4 w.typed) 5 w.acted) 6 w.undone) 7 w.appended
-
-pub length_headed : (w : Word) (l : List ℕ) → length (headed w l) ≡ length l
-length_headed w l = simp length-set
 
 -- a buffer with each part put into its place
 abbrev pub put_keys : List ℕ → List ℕ → List ℕ

@@ -1,4 +1,5 @@
 -- What is written of a record is read back as it; and what is read of 169 bytes with a mark of 0 or 1 is written back as they were.
+use Rattle.std.specs.Prelude.{is_some, Some}
 use mathlib.Core.Path.{◌≡◌, refl, sym, ap, ap₂, ◌∙◌}
 use mathlib.Core.Bool.{Bool, true, false, ◌&&◌}
 use mathlib.Core.List.{List, [], ◌∷◌, ◌++◌, append_assoc}
@@ -14,7 +15,7 @@ use Rattle.rules.specs.Refusals.{all}
 use Rattle.rules.specs.TheWord.{new_word}
 use Rattle.rules.specs.declared.Word.{Word}
 use Rattle.rules.proofs.StaysInRange.{Whole}
-use Rattle.layout.specs.Places.{pairs, numbers, mark_byte, bytes_with, as_bytes, byte, part, is_long, is_mark, word_from, record_if, as_record}
+use Rattle.layout.specs.Places.{pairs, numbers, mark_byte, bytes_with, as_bytes, byte, part, is_long, is_mark, word_from, record_if, as_record, is_record, held, or_new}
 use Rattle.layout.proofs.Pairs.{length_numbers, length_pairs}
 use Rattle.layout.proofs.Answers.{with_parts, length_part, last_byte, no_mark, eight}
 
@@ -57,7 +58,7 @@ peeled : (bs : List ℕ) (place many : ℕ) (front rest : List ℕ) → drop pla
 peeled bs place many front rest e l =
     (ap (take many) e ∙ take_at front rest many l, sym (drop-drop many place bs) ∙ ap (drop many) e ∙ drop_at front rest many l)
 
-pub written_read : (w : Word) → Whole w → as_record (as_bytes w) ≡ record { is_record = true; word = w }
+pub written_read : (w : Word) → Whole w → as_record (as_bytes w) ≡ Some w
 unfolding as_record
 written_read w whole =
     let bs = as_bytes w in
@@ -73,7 +74,7 @@ written_read w whole =
     let one : length (drop 168 bs) ≡ 1 = ap (λ (l : List ℕ). length l) shaped.1 in
     let long : length bs ≡ 169 = omega (arith, length-drop 168 bs, one) in
     ap₂ (λ (l m : Bool). record_if (l && m) bs) (eq-eqb (length bs) 169 long) (is_mark_law w.closed) ∙
-    (λ i. record { is_record = true; word = with_parts w (mark_read w.closed i) (keys.0 i) ((ap numbers letters.0 ∙ numbers_pairs w.letters) i) (by.0 i) (shaped.0 i) (toned i) })
+    (λ i. Some (with_parts w (mark_read w.closed i) (keys.0 i) ((ap numbers letters.0 ∙ numbers_pairs w.letters) i) (by.0 i) (shaped.0 i) (toned i)))
 
 all_first : (n : ℕ) (bs : List ℕ) → T (all is_byte bs) → T (all is_byte (take n bs))
 all_first zero bs t = tt
@@ -108,36 +109,36 @@ module _ (bs : List ℕ) (long : length bs ≡ 169) where
 
 -- what holds of every record that is read
 module _ (bs : List ℕ) (P : Word → Type 0) (h : length bs ≡ 169 → is_mark (byte 3 bs) ≡ true → P (word_from bs)) where
-  of_record : (as_record bs).is_record ≡ true → P (as_record bs).word
+  of_record : is_record bs ≡ true → P (held bs)
   unfolding as_record
   of_record r = go (is_long bs) (is_mark (byte 3 bs)) refl refl r
     where
-      go : (l m : Bool) → is_long bs ≡ l → is_mark (byte 3 bs) ≡ m → (record_if (l && m) bs).is_record ≡ true → P (record_if (l && m) bs).word
+      go : (l m : Bool) → is_long bs ≡ l → is_mark (byte 3 bs) ≡ m → (is_some (record_if (l && m) bs)) ≡ true → P (or_new (record_if (l && m) bs))
       go true true p q e = h (eqb-true (length bs) 169 p) q
       go true false p q e = let z : ◌≡◌ {A = ℕ} 0 1 = cc in absurd (omega arith)
       go false m p q e = let z : ◌≡◌ {A = ℕ} 0 1 = cc in absurd (omega arith)
 
-pub read_written : (bs : List ℕ) → (as_record bs).is_record ≡ true → T (all is_byte bs) → as_bytes (as_record bs).word ≡ bs
+pub read_written : (bs : List ℕ) → is_record bs ≡ true → T (all is_byte bs) → as_bytes (held bs) ≡ bs
 read_written bs r t = of_record bs (λ w. as_bytes w ≡ bs) (λ long m. written_back bs long m t) r
 
-pub read_in_place : (bs : List ℕ) → (as_record bs).is_record ≡ true → bytes_with (part 40 64 bs) (as_record bs).word ≡ bs
+pub read_in_place : (bs : List ℕ) → is_record bs ≡ true → bytes_with (part 40 64 bs) (held bs) ≡ bs
 read_in_place bs r = of_record bs (λ w. bytes_with (part 40 64 bs) w ≡ bs) (in_place bs) r
 
-pub read_parts : (bs : List ℕ) → (as_record bs).is_record ≡ true → (as_record bs).word ≡ word_from bs
+pub read_parts : (bs : List ℕ) → is_record bs ≡ true → held bs ≡ word_from bs
 read_parts bs r = of_record bs (λ w. w ≡ word_from bs) (λ long m. refl) r
 
-pub read_long : (bs : List ℕ) → (as_record bs).is_record ≡ true → length bs ≡ 169
+pub read_long : (bs : List ℕ) → is_record bs ≡ true → length bs ≡ 169
 read_long bs r = of_record bs (λ w. length bs ≡ 169) (λ long m. long) r
 
 -- a record that is read has room for 32 letters, with the places of their keys, and 32 keys
-pub read_whole : (bs : List ℕ) → Whole (as_record bs).word
+pub read_whole : (bs : List ℕ) → Whole (held bs)
 unfolding as_record
 read_whole bs = go (is_long bs) (is_mark (byte 3 bs)) refl
   where
     new : Whole (new_word telex)
     new = record { letters = refl; by = refl; shaped_by = refl; keys = refl }
 
-    go : (b m : Bool) → is_long bs ≡ b → Whole (record_if (b && m) bs).word
+    go : (b m : Bool) → is_long bs ≡ b → Whole (or_new (record_if (b && m) bs))
     go true true e =
         let long = eqb-true (length bs) 169 e in
         record {

@@ -1,9 +1,8 @@
 -- The word's record as 169 bytes at fixed places, and read back.
-use Rattle.std.specs.Prelude.{Bool, true, false, ◌&&◌, ◌||◌, List, [], ◌∷◌, ◌++◌, ℕ, ◌+◌, ◌*◌, ◌/◌, ◌%◌, eqb, length, get_or, take, drop}
+use Rattle.std.specs.Prelude.{Bool, true, false, ◌&&◌, ◌||◌, List, [], ◌∷◌, ◌++◌, ℕ, ◌+◌, ◌*◌, ◌/◌, ◌%◌, eqb, length, get_or, take, drop, Option, Some, None, is_some}
 use Rattle.rules.specs.Letters.{telex}
 use Rattle.rules.specs.TheWord.{new_word}
 use Rattle.rules.specs.declared.Word.{Word}
-use Rattle.layout.specs.declared.RecordRead.{RecordRead}
 
 -- numbers as two bytes each, low byte first; and read back
 abbrev pub pairs : List ℕ → List ℕ
@@ -62,15 +61,23 @@ is_long bs = eqb (length bs) 169
 abbrev pub is_mark : ℕ → Bool
 is_mark n = eqb n 0 || eqb n 1
 
-abbrev pub no_record : RecordRead
-no_record = record { is_record = false; word = new_word telex }
+abbrev pub record_if : Bool → List ℕ → Option Word
+record_if true bs = Some (word_from bs)
+record_if false bs = None
 
-abbrev pub record_if : Bool → List ℕ → RecordRead
-record_if true bs = record { is_record = true; word = word_from bs }
-record_if false bs = no_record
-
-unfoldable pub as_record : List ℕ → RecordRead
+unfoldable pub as_record : List ℕ → Option Word
 as_record bs = record_if (is_long bs && is_mark (byte 3 bs)) bs
+
+-- are bytes a record, and the word that they hold then: a new Telex word where they are none
+abbrev pub is_record : List ℕ → Bool
+is_record bs = is_some (as_record bs)
+
+abbrev pub or_new : Option Word → Word
+or_new (Some w) = w
+or_new None = new_word telex
+
+abbrev pub held : List ℕ → Word
+held bs = or_new (as_record bs)
 
 -- a buffer of 169 bytes with a record written into it; another is left as it was
 abbrev pub record_written_if : Bool → Word → List ℕ → List ℕ

@@ -1,8 +1,8 @@
 // The word's record as 169 bytes at fixed places, as C lends it: no struct and no bool crosses.
 #![tactic(auto)]
 
-ghost use Rattle.std.specs.Prelude.{◌≡◌, ◌+◌, ◌*◌, ◌/◌, ◌%◌, length};
-ghost use Rattle.layout.specs.Places.{pairs, numbers, is_long, no_record as no_record_of, as_record, record_written, letters_put};
+ghost use Rattle.std.specs.Prelude.{◌≡◌, ◌+◌, ◌*◌, length};
+ghost use Rattle.layout.specs.Places.{pairs, numbers, is_long, as_record, held, record_written, letters_put};
 
 use rules::Word;
 
@@ -36,52 +36,17 @@ pub const AT_TONED_BY: usize = 168;
 
 pub const LENGTH: usize = 169;
 
-// What bytes are: a record or none, and the word then; a new Telex word where they are none.
-#[derive(Drop)]
-pub struct RecordRead {
-    pub is_record: bool,
-    pub word: Word,
-}
-
-fn no_record() -> RecordRead
-    ensures { result ≡ no_record_of }
-{
-    RecordRead {
-        is_record: false,
-        word: Word::telex(),
-    }
-}
-
-fn number(low: u8, high: u8) -> u16
-    ensures { result ≡ low + 256 * high }
-{
-    low as u16 + 256 * high as u16
-}
-
 // The letters' numbers, two bytes each.
 fn letters_in(pairs: &[u8]) -> [u16; Word::KEYS]
     requires { length pairs.now ≡ 64 }
     ensures { result ≡ numbers pairs.now }
 {
     let mut letters = [0; Word::KEYS];
-    let mut i = 0;
-    while i < Word::KEYS {
-        letters[i] = number(pairs[2 * i], pairs[2 * i + 1]);
-        i += 1;
+    let (twos, _) = pairs.as_chunks::<2>();
+    for (i, two) in twos.iter().enumerate() {
+        letters[i] = u16::from_le_bytes(*two);
     }
     letters
-}
-
-fn low(n: u16) -> u8
-    ensures { result ≡ n % 256 }
-{
-    (n % 256) as u8
-}
-
-fn high(n: u16) -> u8
-    ensures { result ≡ n / 256 }
-{
-    (n / 256) as u8
 }
 
 // The bytes of the letters' numbers. The loop goes by the slice's length, so that the compiler puts it into its callers, where the
@@ -90,24 +55,24 @@ fn put_pairs(letters: &[u16], out: &mut [u8])
     requires { (length letters.now ≡ 32) × (length out.old ≡ 64) }
     ensures { out.new ≡ pairs letters.now }
 {
-    let mut i = 0;
-    while i < letters.len() {
-        out[2 * i] = low(letters[i]);
-        out[2 * i + 1] = high(letters[i]);
-        i += 1;
+    for (i, letter) in letters.iter().enumerate() {
+        // By index: of bytes written through chunks that are lent out, a proof knows no values.
+        let [low, high] = letter.to_le_bytes();
+        out[2 * i] = low;
+        out[2 * i + 1] = high;
     }
 }
 
-// The record that bytes are. None, with a new Telex word, where they are not 169 or the mark is neither 0 nor 1.
-pub fn read(buffer: &[u8]) -> RecordRead
+// The record that bytes are. None where they are not 169 or the mark is neither 0 nor 1.
+pub fn read(buffer: &[u8]) -> Option<Word>
     ensures { result ≡ as_record buffer.now }
 {
     if buffer.len() != LENGTH {
-        return no_record();
+        return None;
     }
     let mark = buffer[AT_CLOSED];
     if 1 < mark {
-        return no_record();
+        return None;
     }
     let mut keys = [0; Word::KEYS];
     keys.copy_from_slice(&buffer[AT_KEYS..AT_LETTERS]);
@@ -116,24 +81,21 @@ pub fn read(buffer: &[u8]) -> RecordRead
     appended_by.copy_from_slice(&buffer[AT_APPENDED_BY..AT_SHAPED_BY]);
     let mut shaped_by = [0; Word::KEYS];
     shaped_by.copy_from_slice(&buffer[AT_SHAPED_BY..AT_TONED_BY]);
-    RecordRead {
-        is_record: true,
-        word: Word {
-            mode: buffer[AT_MODE],
-            letters: letters,
-            appended_by: appended_by,
-            shaped_by: shaped_by,
-            count: buffer[AT_COUNT],
-            tone: buffer[AT_TONE],
-            toned_by: buffer[AT_TONED_BY],
-            closed: mark == 1,
-            keys: keys,
-            typed: buffer[AT_TYPED],
-            acted: buffer[AT_ACTED],
-            undone: buffer[AT_UNDONE],
-            appended: buffer[AT_APPENDED],
-        },
-    }
+    Some(Word {
+        mode: buffer[AT_MODE],
+        letters,
+        appended_by,
+        shaped_by,
+        count: buffer[AT_COUNT],
+        tone: buffer[AT_TONE],
+        toned_by: buffer[AT_TONED_BY],
+        closed: mark == 1,
+        keys,
+        typed: buffer[AT_TYPED],
+        acted: buffer[AT_ACTED],
+        undone: buffer[AT_UNDONE],
+        appended: buffer[AT_APPENDED],
+    })
 }
 
 // The record's bytes. False, and nothing written, where there is not room for exactly 169.
@@ -166,7 +128,7 @@ pub fn write(w: Word, buffer: &mut [u8]) -> bool
 // The letters of the record that bytes are: those of a new word where they are none. Where no more is wanted of a record, all else need not
 // be read.
 pub fn letters_of(buffer: &[u8]) -> [u16; Word::KEYS]
-    ensures { result ≡ (as_record buffer.now).word.letters }
+    ensures { result ≡ (held buffer.now).letters }
 {
     if buffer.len() != LENGTH {
         return [0; Word::KEYS];

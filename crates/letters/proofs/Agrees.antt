@@ -1,4 +1,5 @@
 -- What the code decodes is what the definition finds, at the front of any text; and what is read at each place of a text.
+use Rattle.std.specs.Prelude.{Option, Some, None}
 use mathlib.Core.Path.{◌≡◌, refl, sym, ap, ap₂, subst, ◌∙◌}
 use mathlib.Core.Bool.{Bool, true, false, not}
 use mathlib.Core.List.{List, [], ◌∷◌, ◌++◌}
@@ -6,17 +7,17 @@ use Prim.Native.Nat.{ℕ, suc, ◌+◌, ◌-◌, ◌<◌, ◌≤◌}
 use native.Mathlib.Numerals.{add-one}
 use native.Mathlib.Omega.{arith}
 use lib.Dec.{T, T_not, eqb, ltb}
-use lib.ListN.{length, get_or, drop, drop_of_length-le}
-use lib.Seq.{drop-cons}
+use lib.ListN.{length, get_or, drop, length-drop, drop_of_length-le}
+use lib.Seq.{take_all, drop-cons}
 use lib.Ieee.Fits.{and_i, and_l, and_r}
 use borrow.Author.Tests.{eqb-true, lt-ltb, le-ltb, ltb-true, ltb-false}
 use Rattle.rules.specs.TheWord.{number}
 use Rattle.rules.specs.CodePoints.{Sign, alphabet, point, utf8}
 use Rattle.rules.specs.Speller.{starts, Front, no_letter, a_letter, front_in, letter_at}
 use Rattle.letters.specs.declared.LetterRead.{LetterRead}
-use Rattle.letters.specs.declared.LetterRead.TheVariants.{Letter, NoLetter}
 use Rattle.letters.specs.Alphabet.{every_sign, in_alphabet}
 use Rattle.letters.specs.LettersRead.{read_of, read_at}
+use Rattle.std.specs.List.{slice_range}
 use Rattle.letters.specs.Decoding.{one_byte, two_bytes, three_bytes, third_of, second_of, decoded, read_as}
 use Rattle.letters.proofs.Fronts.{of_alphabet, decodes_back}
 use Rattle.letters.proofs.Stands.{Stands, none_there, one_there, stands_one, stands_two, stands_three}
@@ -93,17 +94,24 @@ agree bs = go (shown bs)
 
 own : {n : ℕ} {bs : List ℕ} {f : Front} → Stands n bs f → read_as n f ≡ read_of f
 own none_there = refl
-own (one_there {s = s} k t d) = ap (λ (m : ℕ). Letter (number s.letter) s.tone m) (sym d)
+own (one_there {s = s} k t d) = ap (λ (m : ℕ). Some (record { number = number s.letter; tone = s.tone; length = m })) (sym d)
 
 reads : {n : ℕ} {f : Front} (bs : List ℕ) → Stands n bs f → decoded bs ≡ f → read_as n f ≡ read_of (letter_at bs)
 reads bs v e = own v ∙ ap read_of (sym e ∙ agree bs)
 
 -- at a place of a text, by the bytes that are left there
-there : {r : LetterRead} (text : List ℕ) (at : ℕ) (bs : List ℕ) → drop at text ≡ bs → r ≡ read_of (letter_at bs) → r ≡ read_at text at
+there : {r : Option LetterRead} (text : List ℕ) (at : ℕ) (bs : List ℕ) → drop at text ≡ bs → r ≡ read_of (letter_at bs) → r ≡ read_at text at
 unfolding read_at
 there text at bs e d = d ∙ ap (λ (v : List ℕ). read_of (letter_at v)) (sym e)
 
-pub read_end : (text : List ℕ) (at : ℕ) → length text ≤ at → NoLetter ≡ read_at text at
+-- of the bytes that are left there, taken by themselves
+pub at_front : (text : List ℕ) (at : ℕ) (bs : List ℕ) → bs ≡ slice_range text at (length text) → read_at bs 0 ≡ read_at text at
+unfolding read_at
+at_front text at bs e =
+    let long : length (drop at text) ≤ length text - at = simp length-drop (omega arith) in
+    ap (λ (v : List ℕ). read_of (letter_at v)) (e ∙ take_all (length text - at) (drop at text) long)
+
+pub read_end : (text : List ℕ) (at : ℕ) → length text ≤ at → None ≡ read_at text at
 read_end text at l = there text at [] (drop_of_length-le text l) (reads {n = 0} [] none_there refl)
 
 module _ (text : List ℕ) (at : ℕ) (l : at < length text) where
@@ -134,7 +142,7 @@ module _ (text : List ℕ) (at : ℕ) (l : at < length text) where
     past_one : (bs : List ℕ) → decoded (a ∷ bs) ≡ second_of a bs
     past_one bs = rw (decoded, le-ltb a 0x80 h)
 
-    pub cut_at_one : length text - at < 2 → NoLetter ≡ read_at text at
+    pub cut_at_one : length text - at < 2 → None ≡ read_at text at
     cut_at_one m =
         there text at (a ∷ []) (from_one ∙ ap (λ (v : List ℕ). a ∷ v) (drop_of_length-le text {i = at + 1} (omega arith)))
         (reads {n = 0} (a ∷ []) none_there (past_one []))
@@ -148,7 +156,7 @@ module _ (text : List ℕ) (at : ℕ) (l : at < length text) where
       past_two : (bs : List ℕ) → decoded (a ∷ b ∷ bs) ≡ third_of a b bs
       past_two bs = past_one (b ∷ bs) ∙ rw (second_of, le-ltb a 0xE0 g)
 
-      pub cut_at_two : length text - at < 3 → NoLetter ≡ read_at text at
+      pub cut_at_two : length text - at < 3 → None ≡ read_at text at
       cut_at_two k =
           there text at (a ∷ b ∷ []) (from_two m ∙ ap (λ (v : List ℕ). a ∷ b ∷ v) (drop_of_length-le text {i = at + 2} (omega arith)))
           (reads {n = 0} (a ∷ b ∷ []) none_there (past_two []))

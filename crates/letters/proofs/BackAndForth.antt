@@ -1,4 +1,6 @@
 -- The alphabet written and read: 186 letters, each read back from what is written of it, and no other bytes read as a letter.
+use Rattle.std.proofs.lemmas.Option.{same_Some}
+use Rattle.std.specs.Prelude.{Option, Some}
 use mathlib.Core.Path.{◌≡◌, refl, sym, ap, subst, ◌∙◌}
 use mathlib.Core.Bool.{Bool, true, false, ◌&&◌}
 use mathlib.Core.List.{List, [], ◌++◌}
@@ -13,7 +15,6 @@ use Rattle.rules.specs.TheWord.{letter, number}
 use Rattle.rules.specs.CodePoints.{Sign, sign, alphabet, point, utf8}
 use Rattle.rules.specs.Speller.{Front, letter_at}
 use Rattle.letters.specs.declared.LetterRead.{LetterRead}
-use Rattle.letters.specs.declared.LetterRead.TheVariants.{Letter}
 use Rattle.letters.specs.Alphabet.{every_sign, same_sign, in_alphabet, count_signs}
 use Rattle.letters.specs.Writing.{is_letter, tone_stands, letter_bytes}
 use Rattle.letters.specs.LettersRead.{read_of, read_at}
@@ -56,8 +57,8 @@ is_written s k =
     (sign_eq (sign (letter n) s.tone) s (and_l (same_sign (sign (letter n) s.tone) s) (is_letter vni n && tone_stands n s.tone) w))
 
 -- reading back what is written gives the letter again, whatever stands before and behind
-abbrev letter_read : Sign → LetterRead
-letter_read s = Letter (number s.letter) s.tone (length (utf8 (point s)))
+abbrev letter_read : Sign → Option LetterRead
+letter_read s = Some (record { number = number s.letter; tone = s.tone; length = length (utf8 (point s)) })
 
 pub reads_back : (s : Sign) (before behind : List ℕ) → T (in_alphabet s) → read_at (before ++ (letter_bytes (number s.letter) s.tone ++ behind)) (length before) ≡ letter_read s
 unfolding read_at
@@ -75,19 +76,20 @@ pub record Stood (text : List ℕ) (at n t l : ℕ) : Type 0 where
   pub length_is : length (utf8 (point shown_as)) ≡ l
   pub stands : utf8 (point shown_as) ++ drop l (drop at text) ≡ drop at text
 
-pub only_letters : (text : List ℕ) (at n t l : ℕ) → read_at text at ≡ Letter n t l → Stood text at n t l
+pub only_letters : (text : List ℕ) (at n t l : ℕ) → read_at text at ≡ Some (record { number = n; tone = t; length = l }) → Stood text at n t l
 unfolding read_at
 only_letters text at n t l e = go (shown (drop at text)) e
   where
-    go : {f : Front} → Shown alphabet (drop at text) f → read_of f ≡ Letter n t l → Stood text at n t l
+    go : {f : Front} → Shown alphabet (drop at text) f → read_of f ≡ Some (record { number = n; tone = t; length = l }) → Stood text at n t l
     go (absent h) d = let z : ◌≡◌ {A = ℕ} 0 1 = cc in absurd (omega arith)
     go (present {s = s} k u) d =
-        let e : length (utf8 (point s)) ≡ l = cc in
+        let same = same_Some {A = LetterRead} (record { number = number s.letter; tone = s.tone; length = length (utf8 (point s)) }) (record { number = n; tone = t; length = l }) d in
+        let e : length (utf8 (point s)) ≡ l = ap (λ (x : LetterRead). x.length) same in
         record {
           shown_as = s;
           known = k;
-          number_is = cc;
-          tone_is = cc;
+          number_is = ap (λ (x : LetterRead). x.number) same;
+          tone_is = ap (λ (x : LetterRead). x.tone) same;
           length_is = e;
           stands = subst (λ (m : ℕ). utf8 (point s) ++ drop m (drop at text) ≡ drop at text) e (starts_is (utf8 (point s)) (drop at text) u);
         }

@@ -1,4 +1,5 @@
 -- One to three bytes decoded: when the bytes are in range, and what is then looked up.
+use Rattle.std.specs.Prelude.{Some, None}
 use mathlib.Core.Path.{◌≡◌, sym, ap, ap₂, ◌∙◌}
 use mathlib.Core.Bool.{Bool, true, false, ◌&&◌}
 use Prim.Native.Nat.{ℕ, ◌<◌, ◌≤◌}
@@ -9,7 +10,6 @@ use Rattle.rules.specs.TheWord.{number}
 use Rattle.rules.specs.KeyRoles.{is_key, letter_of_key}
 use Rattle.rules.specs.CodePoints.{sign}
 use Rattle.rules.specs.Speller.{Front, no_letter, a_letter}
-use Rattle.letters.specs.declared.LetterRead.TheVariants.{Letter, NoLetter}
 use Rattle.letters.specs.Decoding.{found, follows_on, Follows, one_byte, least_lead, InTwo, point_of_two, two_bytes, least_point, InThree, point_of_three, three_bytes, read_as}
 use Rattle.keys.proofs.Bools.{first, second}
 
@@ -22,10 +22,10 @@ tested p e d = ap (λ (x : Bool). p && x) (sym e) ∙ d
 
 -- one byte
 module _ {r : Bool} (a : ℕ) (e : r ≡ is_key telex a) where
-  pub is_one : {x : ℕ} → r ≡ true → x ≡ number (letter_of_key a) → Letter x 0 1 ≡ read_as 1 (one_byte a)
-  is_one t d = ap (λ (m : ℕ). Letter m 0 1) d ∙ sym (ap (λ (b : Bool). read_as 1 (only (a_letter (sign (letter_of_key a) no_tone)) b)) (sym e ∙ t))
+  pub is_one : {x : ℕ} → r ≡ true → x ≡ number (letter_of_key a) → Some (record { number = x; tone = 0; length = 1 }) ≡ read_as 1 (one_byte a)
+  is_one t d = ap (λ (m : ℕ). Some (record { number = m; tone = 0; length = 1 })) d ∙ sym (ap (λ (b : Bool). read_as 1 (only (a_letter (sign (letter_of_key a) no_tone)) b)) (sym e ∙ t))
 
-  pub no_one : r ≡ false → NoLetter ≡ read_as 1 (one_byte a)
+  pub no_one : r ≡ false → None ≡ read_as 1 (one_byte a)
   no_one t = sym (ap (λ (b : Bool). read_as 1 (only (a_letter (sign (letter_of_key a) no_tone)) b)) (sym e ∙ t))
 
 -- a byte that follows
@@ -43,7 +43,7 @@ module _ {r : Bool} (a b : ℕ) (e : r ≡ follows_on b) where
   pub is_two : leb least_lead a && r ≡ true → found (point_of_two a b) ≡ two_bytes a b
   is_two t = sym (ap (only (found (point_of_two a b))) (tested (leb least_lead a) e t))
 
-  pub no_two : leb least_lead a && r ≡ false → NoLetter ≡ read_as 2 (two_bytes a b)
+  pub no_two : leb least_lead a && r ≡ false → None ≡ read_as 2 (two_bytes a b)
   no_two t = sym (ap (λ (x : Bool). read_as 2 (only (found (point_of_two a b)) x)) (tested (leb least_lead a) e t))
 
 -- three bytes
@@ -69,8 +69,8 @@ module _ {r s : Bool} (a b c : ℕ) (e : r ≡ follows_on b) (d : s ≡ follows_
   pub is_three : ltb a 0xF0 && (r && s) ≡ true → least_point ≤ point_of_three a b c → found (point_of_three a b c) ≡ three_bytes a b c
   is_three t l = sym (ap₂ (long a b c) (test_is t) (le-leb least_point (point_of_three a b c) l))
 
-  pub overlong : ltb a 0xF0 && (r && s) ≡ true → point_of_three a b c < least_point → NoLetter ≡ read_as 3 (three_bytes a b c)
+  pub overlong : ltb a 0xF0 && (r && s) ≡ true → point_of_three a b c < least_point → None ≡ read_as 3 (three_bytes a b c)
   overlong t l = sym (ap₂ (λ (x y : Bool). read_as 3 (long a b c x y)) (test_is t) (lt-leb least_point (point_of_three a b c) l))
 
-  pub no_three : ltb a 0xF0 && (r && s) ≡ false → NoLetter ≡ read_as 3 (three_bytes a b c)
+  pub no_three : ltb a 0xF0 && (r && s) ≡ false → None ≡ read_as 3 (three_bytes a b c)
   no_three t = sym (ap (λ (x : Bool). read_as 3 (long a b c x (leb least_point (point_of_three a b c)))) (test_is t))

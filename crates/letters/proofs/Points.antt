@@ -1,8 +1,8 @@
 -- The rule of the table of code points, at each entry; and the code point of a letter by its row.
-use mathlib.Core.Path.{◌≡◌, refl, ap, ap₂}
+use mathlib.Core.Path.{◌≡◌, refl, sym, ap, ap₂, ◌∙◌}
 use mathlib.Core.Bool.{Bool, true, false, not, ◌&&◌, ◌||◌, beq}
-use mathlib.Core.List.{List, [], ◌∷◌}
-use Prim.Native.Nat.{ℕ, suc, ◌+◌, ◌*◌, ◌≤◌, ◌<◌, ◌/◌, ◌%◌}
+use mathlib.Core.List.{List, [], ◌∷◌, map}
+use Prim.Native.Nat.{ℕ, zero, suc, ◌+◌, ◌*◌, ◌≤◌, ◌<◌, ◌/◌, ◌%◌}
 use native.Mathlib.Nat.{le_of_suc-le-suc, not-suc-le-zero, mod-eq_of_lt, div-div-eq-div-mul}
 use native.Mathlib.Omega.{arith}
 use lib.Dec.{T, eqb, eqb→eq, leb, leb→le, ltb, ltb→lt}
@@ -57,6 +57,32 @@ right_at k h = go (get_or point_table k 0) (entry right point_table right_all k 
           small = named (sign_of false k) p (search (and_l, and_r));
           capital = named (sign_of true k) (capital_point p) (search and_r);
         }
+
+-- The code's table, whose rows are those of the definition, as both compute; and each entry of it.
+abbrev pub rows : List (List ℕ)
+rows = map (λ (v : Vowel). v.points) vowels
+
+row_is : (vs : List Vowel) (r : ℕ) → get_or (map (λ (v : Vowel). v.points) vs) r [] ≡ points_in vs r
+row_is [] r = refl
+row_is (v ∷ vs) zero = refl
+row_is (v ∷ vs) (suc r) = row_is vs r
+
+abbrev pub entry_at : ℕ → ℕ → ℕ
+entry_at r t = get_or (get_or rows r []) t 0
+
+module _ (r t : ℕ) (h : r < 12) (l : t < 6) where
+  row_entry : entry_at r t ≡ get_or (points_of r) t 0
+  unfolding points_of
+  row_entry = ap (λ (ps : List ℕ). get_or ps t 0) (row_is vowels r)
+
+  pub flat_entry : entry_at r t ≡ get_or point_table (r * 6 + t) 0
+  flat_entry =
+      let d : (r * 6 + t) / 6 ≡ r = omega arith in
+      let m : (r * 6 + t) % 6 ≡ t = omega arith in
+      row_entry ∙ sym ((right_at (r * 6 + t) (omega arith)).point_is ∙ ap₂ (λ (i j : ℕ). get_or (points_of i) j 0) d m)
+
+  pub at_row : (entry_at r t ≡ get_or (points_of r) t 0) × (32 ≤ entry_at r t)
+  at_row = (row_entry, rw flat_entry ((right_at (r * 6 + t) (omega arith)).above))
 
 -- The code point of a letter with a row is its row's, of any other that of no vowel.
 pub in_row_law : (vs : List Vowel) (x : Letter) (t : ℕ) → vowel_row_in vs x < length vs → small_point vs x t ≡ get_or (points_in vs (vowel_row_in vs x)) t 0

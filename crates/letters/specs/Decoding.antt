@@ -1,5 +1,5 @@
 -- How the code reads: the first one to three bytes as a code point, and the code point looked up. The crate's proofs show that this finds what `letter_at` says.
-use Rattle.std.specs.Prelude.{Bool, true, false, ◌&&◌, List, [], ◌∷◌, ℕ, suc, ◌+◌, ◌-◌, ◌*◌, ◌<◌, ◌≤◌, eqb, leb, ltb}
+use Rattle.std.specs.Prelude.{Bool, true, false, ◌&&◌, List, [], ◌∷◌, ℕ, suc, ◌+◌, ◌-◌, ◌*◌, ◌<◌, ◌≤◌, eqb, leb, ltb, Option, Some, None}
 use Prim.Native.Char.{code}
 use Rattle.rules.specs.Letters.{no_tone, telex, named}
 use Rattle.rules.specs.TheWord.{number}
@@ -8,7 +8,6 @@ use Rattle.rules.specs.CodePoints.{sign, capital_point}
 use Rattle.rules.specs.Speller.{Front, no_letter, a_letter}
 use Rattle.letters.specs.Rows.{point_table, cased, sign_of}
 use Rattle.letters.specs.declared.LetterRead.{LetterRead}
-use Rattle.letters.specs.declared.LetterRead.TheVariants.{Letter, NoLetter}
 
 -- a code point above ASCII: đ, or one of the table, small or as a capital
 abbrev pub found_in : ℕ → ℕ → List ℕ → Front
@@ -86,6 +85,6 @@ decoded [] = no_letter
 decoded (a ∷ bs) = elim (ltb a 0x80) [ true ↦ one_byte a | false ↦ second_of a bs ]
 
 -- what is found, with the number of bytes that were looked at
-abbrev pub read_as : ℕ → Front → LetterRead
-read_as n no_letter = NoLetter
-read_as n (a_letter s) = Letter (number s.letter) s.tone n
+abbrev pub read_as : ℕ → Front → Option LetterRead
+read_as n no_letter = None
+read_as n (a_letter s) = Some (record { number = number s.letter; tone = s.tone; length = n })

@@ -14,14 +14,11 @@ mod vowels;
 use rules::{CAPITAL, DOT, NO_TONE, STROKE, Word};
 
 // A letter that starts at a place of a text: its number, the tone on it, and its length in bytes.
-#[derive(Clone, Copy)]
-pub enum LetterRead {
-    Letter {
-        number: u16,
-        tone: u8,
-        length: usize,
-    },
-    NoLetter,
+#[derive(Clone, Copy, Debug, PartialEq, Eq)]
+pub struct LetterRead {
+    pub number: u16,
+    pub tone: u8,
+    pub length: usize,
 }
 
 // đ: its number as a letter, and its code points.
@@ -42,11 +39,16 @@ pub fn is_plain(letter: u16) -> bool
 fn is_shaped(small: u16) -> bool
     ensures { result ≡ is_shaped_of small }
 {
-    match small {
-        vowels::A_BREVE | vowels::A_CIRCUMFLEX | vowels::E_CIRCUMFLEX => true,
-        vowels::O_CIRCUMFLEX | vowels::O_HORN | vowels::U_HORN | D_STROKE => true,
-        _ => false,
-    }
+    matches!(
+        small,
+        vowels::A_BREVE
+            | vowels::A_CIRCUMFLEX
+            | vowels::E_CIRCUMFLEX
+            | vowels::O_CIRCUMFLEX
+            | vowels::O_HORN
+            | vowels::U_HORN
+            | D_STROKE
+    )
 }
 
 // A digit: no capital, and in no shape.
@@ -90,7 +92,8 @@ fn in_case(letter: u16, small: u16) -> u16
     }
 }
 
-// The code point of a letter with a tone on it; 0 where there is none. A digit is its own code point.
+// The code point of a letter with a tone on it. A digit is its own code point.
+// 0 where there is none, and no Option: the clause, by point_or, is a promise.
 pub fn point(letter: u16, tone: u8) -> u16
     ensures { result ≡ point_or letter tone }
 {
@@ -101,8 +104,7 @@ pub fn point(letter: u16, tone: u8) -> u16
         return 0;
     }
     let small = letter % CAPITAL;
-    let row = vowels::row(small);
-    if row < vowels::ROWS {
+    if let Some(row) = vowels::row(small) {
         return in_case(letter, vowels::point(row, tone as usize));
     }
     if !is_letter(Word::VNI, letter) {
@@ -125,27 +127,27 @@ fn follows(byte: u8) -> bool
 }
 
 // A letter of one byte is an ASCII letter, in its own case and with no tone.
-fn one_byte(first: u8) -> LetterRead
+fn one_byte(first: u8) -> Option<LetterRead>
     ensures { result ≡ read_as 1 (one_byte_of first) }
 {
     if keys::is_key(Word::TELEX, first) {
-        return LetterRead::Letter {
+        return Some(LetterRead {
             number: keys::letter_of_key(first),
             tone: NO_TONE,
             length: 1,
-        };
+        });
     }
-    LetterRead::NoLetter
+    None
 }
 
 // A letter of two bytes. The leads C0 and C1 would be overlong.
-fn two_bytes(first: u8, second: u8) -> LetterRead
+fn two_bytes(first: u8, second: u8) -> Option<LetterRead>
     ensures { result ≡ read_as 2 (two_bytes_of first second) }
 {
     if (0xC2 <= first) & follows(second) {
         return vowels::find(point_of_two(first, second), 2);
     }
-    LetterRead::NoLetter
+    None
 }
 
 fn point_of_two(first: u8, second: u8) -> u16
@@ -156,7 +158,7 @@ fn point_of_two(first: u8, second: u8) -> u16
 }
 
 // A letter of three bytes; a code point below 800 hex would be overlong.
-fn three_bytes(first: u8, second: u8, third: u8) -> LetterRead
+fn three_bytes(first: u8, second: u8, third: u8) -> Option<LetterRead>
     requires { 0xE0 ≤ first }
     ensures { result ≡ read_as 3 (three_bytes_of first second third) }
 {
@@ -166,7 +168,7 @@ fn three_bytes(first: u8, second: u8, third: u8) -> LetterRead
             return vowels::find(point, 3);
         }
     }
-    LetterRead::NoLetter
+    None
 }
 
 fn point_of_three(first: u8, second: u8, third: u8) -> u16
@@ -177,26 +179,13 @@ fn point_of_three(first: u8, second: u8, third: u8) -> u16
 }
 
 // The letter of the alphabet that starts at a place of a text.
-pub fn read(text: &[u8], at: usize) -> LetterRead
+pub fn read(text: &[u8], at: usize) -> Option<LetterRead>
     ensures { result ≡ read_at text.now at }
 {
-    if text.len() <= at {
-        return LetterRead::NoLetter;
+    match text.get(at..)? {
+        [first, ..] if *first < 0x80 => one_byte(*first),
+        [first, second, ..] if *first < 0xE0 => two_bytes(*first, *second),
+        [first, second, third, ..] => three_bytes(*first, *second, *third),
+        _ => None,
     }
-    let left = text.len() - at;
-    let first = text[at];
-    if first < 0x80 {
-        return one_byte(first);
-    }
-    if left < 2 {
-        return LetterRead::NoLetter;
-    }
-    let second = text[at + 1];
-    if first < 0xE0 {
-        return two_bytes(first, second);
-    }
-    if left < 3 {
-        return LetterRead::NoLetter;
-    }
-    three_bytes(first, second, text[at + 2])
 }

@@ -1,8 +1,8 @@
 -- An answer line has at most 512 bytes, in each program, and at most 12 for each byte of its line and for the newline behind it.
+use Rattle.std.specs.Prelude.{Option, Some, None, Ok}
 use mathlib.Core.Path.{◌≡◌, refl, sym, ap, subst}
 use mathlib.Core.Bool.{Bool, true, false}
 use mathlib.Core.List.{List, [], ◌∷◌, ◌++◌}
-use mathlib.Core.Option.{Option, none, some}
 use Prim.Native.Nat.{ℕ, ◌+◌, ◌*◌, ◌≤◌, min}
 use Prim.Native.Char.{code}
 use native.Mathlib.Omega.{arith}
@@ -20,7 +20,6 @@ use Rattle.rules.specs.SpellProgram.{text_call, spelled_or, spelled_line, spell_
 use Rattle.rules.specs.declared.Refusal.{Refusal}
 use Rattle.rules.specs.declared.Decision.{Decision}
 use Rattle.rules.specs.declared.Decision.TheVariants.{Keep, Restore}
-use Rattle.rules.specs.declared.TypeAnswer.TheVariants.{AllTyped}
 use Rattle.rules.proofs.TextFits.{three_a_letter}
 use Rattle.rules.proofs.Typing.{kept_keys}
 use Rattle.rules.proofs.NotRefused.{typed_held, few_keys, fewer_letters}
@@ -69,7 +68,7 @@ either_long true z k l h few = with_keys_long z k l h few
 either_long false z k l h few = omega (arith, word_long z k l h newline)
 
 -- a word has as many places as letters
-few_places : (m : ℕ) (ks : List ℕ) → (type_all m ks).answer ≡ AllTyped → length (typed m ks).places.appended_by ≤ length ks
+few_places : (m : ℕ) (ks : List ℕ) → (type_all m ks).answer ≡ (Ok tt) → length (typed m ks).places.appended_by ≤ length ks
 few_places m ks a = omega (arith, (typed_held m ks a).abreast.by, fewer_letters m ks a)
 
 -- what stands behind a line's start has so many bytes
@@ -86,9 +85,9 @@ unfolding type_all
 keys_fit b m ks = go (refusal (type_call m ks)) refl
   where
     go : (o : Option Refusal) → refusal (type_call m ks) ≡ o → length (keys_line (word_line_of b) m ks) ≤ most (length ks)
-    go (some x) e = subst (λ (o : Option Refusal). length (line_or (word_line_of b) o m ks) ≤ most (length ks)) (sym e) (refused_fits (length ks) x)
-    go none e =
-        let a : (type_all m ks).answer ≡ AllTyped = ap (λ (o : Option Refusal). (type_or o m ks).answer) e in
+    go (Some x) e = subst (λ (o : Option Refusal). length (line_or (word_line_of b) o m ks) ≤ most (length ks)) (sym e) (refused_fits (length ks) x)
+    go None e =
+        let a : (type_all m ks).answer ≡ (Ok tt) = ap (λ (o : Option Refusal). (type_or o m ks).answer) e in
         let all : length (typed m ks).keys ≤ length ks = omega (arith, kept_keys (word_of (new_word m)) ks) in
         subst (λ (o : Option Refusal). length (line_or (word_line_of b) o m ks) ≤ most (length ks)) (sym e)
         (omega (arith, few_keys m ks a, either_long b (typed m ks) (length ks) (fewer_letters m ks a) all (few_places m ks a)))
@@ -97,8 +96,8 @@ spelled_fits : (m : ℕ) (text : List ℕ) → length (spelled_line m text) ≤ 
 spelled_fits m text = go (refusal (text_call m text)) refl
   where
     go : (o : Option Refusal) → refusal (text_call m text) ≡ o → length (spelled_line m text) ≤ most (length text)
-    go (some x) e = subst (λ (o : Option Refusal). length (spelled_or o m text) ≤ most (length text)) (sym e) (refused_fits (length text) x)
-    go none e =
+    go (Some x) e = subst (λ (o : Option Refusal). length (spelled_or o m text) ≤ most (length text)) (sym e) (refused_fits (length text) x)
+    go None e =
         subst (λ (o : Option Refusal). length (spelled_or o m text) ≤ most (length text)) (sym e)
         (simp length-append (omega (arith, keys_few m text, few_spelled m text e)))
 

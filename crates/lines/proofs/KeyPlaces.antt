@@ -1,19 +1,16 @@
 -- The places of the keys: the column of the letters is what the loop over them writes and the last letter behind it, and how long the two columns can be.
-use mathlib.Core.Path.{◌≡◌, refl, sym, ap, ◌∙◌}
+use mathlib.Core.Path.{◌≡◌, refl, sym, ap, ap₂, ◌∙◌}
 use mathlib.Core.List.{List, [], ◌∷◌, ◌++◌, append_assoc, append-nil}
-use Prim.Native.Nat.{ℕ, zero, suc, ◌+◌, ◌*◌, ◌≤◌, ◌<◌}
+use Prim.Native.Nat.{ℕ, ◌+◌, ◌*◌, ◌≤◌, ◌<◌}
 use Prim.Native.Char.{code}
 use native.Mathlib.Omega.{arith}
 use lib.Dec.{lit≤, lit<}
-use lib.ListN.{length, take, get_or, length-append}
+use lib.ListN.{length, length-append}
 use Rattle.rules.specs.TheWord.{Typed}
 use Rattle.rules.specs.Drill.{newline, or_hyphen, joined, columns, place_or_hyphen, letter_place, each_letter, letter_places, word_columns, key_columns, word_line_with_keys}
-use Rattle.lines.specs.Appending.{Appends, ended_by}
+use Rattle.lines.specs.Appending.{Appends, held, ended_by}
+use Rattle.lines.specs.declared.line.Line.{Line}
 use Rattle.lines.proofs.Columns.{key_long, no_hyphen, hyphen_long, in_two, in_both}
-
--- before the first letter nothing is written
-pub none_put : (text : List ℕ) (at : ℕ) → at ≤ length text → Appends text text at at []
-none_put text at h = record { moved = omega arith; within = h; long = refl; front = sym (append-nil (take at text)) }
 
 pub letter_long : (p q end : ℕ) → length (letter_place p q ++ (end ∷ [])) ≤ 6
 letter_long p q end =
@@ -27,40 +24,64 @@ commas [] qs = []
 commas (p ∷ ps) [] = []
 commas (p ∷ ps) (q ∷ qs) = (letter_place p q ++ (code "," ∷ [])) ++ commas ps qs
 
-pub commas_long : (i : ℕ) (ps qs : List ℕ) → length (commas (take i ps) (take i qs)) ≤ 6 * i
-commas_long zero ps qs = lit≤ tt
-commas_long (suc i) [] qs = omega arith
-commas_long (suc i) (p ∷ ps) [] = omega arith
-commas_long (suc i) (p ∷ ps) (q ∷ qs) = omega (arith, length-append (letter_place p q ++ (code "," ∷ [])) (commas (take i ps) (take i qs)), letter_long p q (code ","), commas_long i ps qs)
+commas_long : (ps qs : List ℕ) → length (commas ps qs) ≤ 6 * length ps
+commas_long [] qs = lit≤ tt
+commas_long (p ∷ ps) [] = omega arith
+commas_long (p ∷ ps) (q ∷ qs) = omega (arith, length-append (letter_place p q ++ (code "," ∷ [])) (commas ps qs), letter_long p q (code ","), commas_long ps qs)
 
-pub one_more : (i : ℕ) (ps qs : List ℕ) → i < length ps → i < length qs
-    → commas (take i ps) (take i qs) ++ (letter_place (get_or ps i 0) (get_or qs i 0) ++ (code "," ∷ [])) ≡ commas (take (suc i) ps) (take (suc i) qs)
-one_more i [] qs h k = absurd (omega arith)
-one_more i (p ∷ ps) [] h k = absurd (omega arith)
-one_more zero (p ∷ ps) (q ∷ qs) h k = sym (append-nil (letter_place p q ++ (code "," ∷ [])))
-one_more (suc i) (p ∷ ps) (q ∷ qs) h k =
-    let front = letter_place p q ++ (code "," ∷ []) in
-    append_assoc front (commas (take i ps) (take i qs)) (letter_place (get_or ps i 0) (get_or qs i 0) ++ (code "," ∷ [])) ∙ ap (λ (l : List ℕ). front ++ l) (one_more i ps qs (omega arith) (omega arith))
+-- a line while letters are written: behind what it holds, those that are left make the same as all behind what it held before
+pub record Left (before now : Line) (ps qs left_ps left_qs : List ℕ) : Type 0 where
+  pub abreast : length left_qs ≡ length left_ps
+  pub moved : now.at + length (commas left_ps left_qs) ≡ before.at + length (commas ps qs)
+  pub front : held now ++ commas left_ps left_qs ≡ held before ++ commas ps qs
 
-last_one : (i : ℕ) (ps qs : List ℕ) (end : ℕ) → length ps ≡ suc i → length qs ≡ suc i
-    → commas (take i ps) (take i qs) ++ (letter_place (get_or ps i 0) (get_or qs i 0) ++ (end ∷ [])) ≡ letter_places ps qs ++ (end ∷ [])
-last_one i [] qs end h k = absurd (omega arith)
-last_one i (p ∷ ps) [] end h k = absurd (omega arith)
-last_one zero (p ∷ []) (q ∷ qs) end h k = refl
-last_one zero (p ∷ a ∷ ps) (q ∷ qs) end h k = absurd (omega arith)
-last_one (suc i) (p ∷ []) (q ∷ qs) end h k = absurd (omega arith)
-last_one (suc i) (p ∷ a ∷ ps) (q ∷ []) end h k = absurd (omega arith)
-last_one (suc i) (p ∷ a ∷ ps) (q ∷ b ∷ qs) end h k =
-    let here = letter_place p q in
-    let last = letter_place (get_or (a ∷ ps) i 0) (get_or (b ∷ qs) i 0) ++ (end ∷ []) in
-    let e : ((here ++ (code "," ∷ [])) ++ commas (take i (a ∷ ps)) (take i (b ∷ qs))) ++ last ≡ here ++ (code "," ∷ (commas (take i (a ∷ ps)) (take i (b ∷ qs)) ++ last)) = simp append_assoc in
-    e ∙ ap (λ (l : List ℕ). here ++ (code "," ∷ l)) (last_one i (a ∷ ps) (b ∷ qs) end (omega arith) (omega arith)) ∙ sym (append_assoc here (code "," ∷ letter_places (a ∷ ps) (b ∷ qs)) (end ∷ []))
+pub one_put : {before now next : Line} {ps qs left_ps left_qs more_ps more_qs : List ℕ} {p q : ℕ} → left_ps ≡ p ∷ more_ps → left_qs ≡ q ∷ more_qs
+    → Left before now ps qs left_ps left_qs → Appends now next (letter_place p q ++ (code "," ∷ [])) → Left before next ps qs more_ps more_qs
+one_put {now = now} {more_ps = more_ps} {more_qs} {p} {q} e f left more =
+    let here = letter_place p q ++ (code "," ∷ []) in
+    let split = ap₂ commas e f in
+    record {
+      abreast = omega (arith, left.abreast, ap length e, ap length f);
+      moved = omega (arith, left.moved, more.moved, ap length split, length-append here (commas more_ps more_qs));
+      front =
+          ap (λ (l : List ℕ). l ++ commas more_ps more_qs) more.front ∙ append_assoc (held now) here (commas more_ps more_qs) ∙
+          ap (λ (l : List ℕ). held now ++ l) (sym split) ∙ left.front;
+    }
 
--- a word without letters has a hyphen, and one with letters has none
-pub no_letters : (ps qs : List ℕ) (end : ℕ) → length ps ≡ 0 → code "-" ∷ end ∷ [] ≡ or_hyphen (letter_places ps qs) ++ (end ∷ [])
-no_letters [] qs end h = refl
-no_letters (p ∷ ps) qs end h = absurd (omega arith)
+pub few_put : {before now : Line} {ps qs left_ps left_qs : List ℕ} → Left before now ps qs left_ps left_qs → now.at ≤ before.at + 6 * length ps
+few_put {ps = ps} {qs} left = omega (arith, left.moved, commas_long ps qs)
 
+no_commas : (ps qs : List ℕ) → length ps ≡ 0 → commas ps qs ≡ []
+no_commas [] qs h = refl
+no_commas (p ∷ ps) qs h = absurd (omega arith)
+
+pub all_put : {before now : Line} {ps qs left_ps left_qs : List ℕ} → length left_ps ≡ 0 → Left before now ps qs left_ps left_qs → Appends before now (commas ps qs)
+all_put {now = now} {left_ps = left_ps} {left_qs} h left =
+    let none = no_commas left_ps left_qs h in
+    record { moved = omega (arith, left.moved, ap length none); front = sym (append-nil (held now)) ∙ ap (λ (l : List ℕ). held now ++ l) (sym none) ∙ left.front }
+
+-- the last letter behind them
+last_one : (ps qs : List ℕ) (p q end : ℕ) → length qs ≡ length ps → commas ps qs ++ (letter_place p q ++ (end ∷ [])) ≡ letter_places (ps ++ (p ∷ [])) (qs ++ (q ∷ [])) ++ (end ∷ [])
+last_one [] [] p q end h = refl
+last_one [] (b ∷ qs) p q end h = absurd (omega arith)
+last_one (a ∷ ps) [] p q end h = absurd (omega arith)
+last_one (a ∷ ps) (b ∷ qs) p q end h = go ps qs (last_one ps qs p q end (omega arith)) (omega arith)
+  where
+    here : List ℕ
+    here = letter_place a b
+
+    go : (ps qs : List ℕ) → commas ps qs ++ (letter_place p q ++ (end ∷ [])) ≡ letter_places (ps ++ (p ∷ [])) (qs ++ (q ∷ [])) ++ (end ∷ []) → length qs ≡ length ps
+        → commas (a ∷ ps) (b ∷ qs) ++ (letter_place p q ++ (end ∷ [])) ≡ letter_places ((a ∷ ps) ++ (p ∷ [])) ((b ∷ qs) ++ (q ∷ [])) ++ (end ∷ [])
+    go [] [] e h = ap (λ (l : List ℕ). l ++ (letter_place p q ++ (end ∷ []))) (append-nil (here ++ (code "," ∷ []))) ∙ append_assoc here (code "," ∷ []) (letter_place p q ++ (end ∷ [])) ∙ sym (append_assoc here (code "," ∷ letter_place p q) (end ∷ []))
+    go [] (d ∷ qs) e h = absurd (omega arith)
+    go (c ∷ ps) [] e h = absurd (omega arith)
+    go (c ∷ ps) (d ∷ qs) e h =
+        let rest = commas (c ∷ ps) (d ∷ qs) in
+        let last = letter_place p q ++ (end ∷ []) in
+        let f : ((here ++ (code "," ∷ [])) ++ rest) ++ last ≡ here ++ (code "," ∷ (rest ++ last)) = simp append_assoc in
+        f ∙ ap (λ (l : List ℕ). here ++ (code "," ∷ l)) e ∙ sym (append_assoc here (code "," ∷ letter_places ((c ∷ ps) ++ (p ∷ [])) ((d ∷ qs) ++ (q ∷ []))) (end ∷ []))
+
+-- a word with letters has no hyphen
 some_text : (c : List ℕ) (cs : List (List ℕ)) → length c ≤ length (joined (code ",") (c ∷ cs))
 some_text c [] = omega arith
 some_text c (d ∷ ds) = omega (arith, length-append c (code "," ∷ joined (code ",") (d ∷ ds)))
@@ -70,10 +91,12 @@ not_empty [] qs h k = absurd (omega arith)
 not_empty (p ∷ ps) [] h k = absurd (omega arith)
 not_empty (p ∷ ps) (q ∷ qs) h k = omega (arith, some_text (letter_place p q) (each_letter ps qs), length-append (place_or_hyphen p) (code "/" ∷ place_or_hyphen q))
 
-pub all_letters : (i : ℕ) (ps qs : List ℕ) (end : ℕ) → length ps ≡ suc i → length qs ≡ suc i
-    → commas (take i ps) (take i qs) ++ (letter_place (get_or ps i 0) (get_or qs i 0) ++ (end ∷ [])) ≡ or_hyphen (letter_places ps qs) ++ (end ∷ [])
-all_letters i ps qs end h k =
-    last_one i ps qs end h k ∙ no_hyphen (letter_places ps qs) end (λ z. let some = not_empty ps qs (omega arith) (omega arith) in absurd (omega arith))
+pub all_letters : (ps qs : List ℕ) (p q end : ℕ) → length qs ≡ length ps
+    → commas ps qs ++ (letter_place p q ++ (end ∷ [])) ≡ or_hyphen (letter_places (ps ++ (p ∷ [])) (qs ++ (q ∷ []))) ++ (end ∷ [])
+all_letters ps qs p q end h =
+    last_one ps qs p q end h ∙
+    no_hyphen (letter_places (ps ++ (p ∷ [])) (qs ++ (q ∷ []))) end
+    (λ z. let some = not_empty (ps ++ (p ∷ [])) (qs ++ (q ∷ [])) (simp length-append (omega arith)) (simp length-append (omega arith)) in absurd (omega arith))
 
 -- how long the two columns can be
 letters_long : (ps qs : List ℕ) → length (letter_places ps qs) ≤ 6 * length ps

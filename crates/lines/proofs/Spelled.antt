@@ -1,13 +1,13 @@
 -- What the speller answers with room for a line: never refusal 4, a refusal whose numbers fit their columns, or at most 193 keys, two a byte of the text and one.
-use mathlib.Core.Path.{◌≡◌, refl, sym, ap, subst, ◌∙◌}
+use Rattle.std.specs.Prelude.{Option, Some, None, Result, Ok, Err}
+use mathlib.Core.Path.{◌≡◌, refl, sym, ap, ◌∙◌}
 use mathlib.Core.Bool.{Bool, true, false, not, ◌&&◌, ◌||◌}
 use mathlib.Core.List.{List, [], ◌∷◌, ◌++◌}
-use mathlib.Core.Option.{Option, none, some}
 use Prim.Native.Nat.{ℕ, zero, suc, ◌+◌, ◌*◌, ◌≤◌, ◌<◌}
 use native.Mathlib.Omega.{arith}
 use borrow.Author.Tests.{lt-ltb, le-ltb, ltb-true, ltb-false, leb-true}
 use lib.Dec.{T, eqb, leb, ltb, nltb→le, lit≤}
-use lib.ListN.{length, drop, set, length-append, length-drop}
+use lib.ListN.{length, take, drop, length-append, length-drop}
 use lib.Ieee.Fits.{and_l, and_r}
 use Rattle.rules.specs.Letters.{plain, no_tone}
 use Rattle.rules.specs.TheWord.{most_bytes, at_front}
@@ -19,23 +19,10 @@ use Rattle.rules.specs.WhatComesBack.{Written, write_or, keys_of, spell_call, sp
 use Rattle.rules.specs.Drill.{newline, refused_line}
 use Rattle.rules.specs.SpellProgram.{text_call, spelled_or, spelled_line}
 use Rattle.rules.specs.declared.Refusal.{Refusal}
-use Rattle.rules.specs.declared.WriteAnswer.{WriteAnswer}
-use Rattle.rules.specs.declared.WriteAnswer.TheVariants.{Wrote, Refused}
 use Rattle.rules.proofs.Tests.{is_true}
 use Rattle.rules.proofs.StaysInRange.{read_front}
 use Rattle.rules.proofs.Refused.{refusal_none}
-use Rattle.lines.specs.Appending.{Appends, most_in_line}
-use Rattle.lines.proofs.Columns.{and_then_law, byte_put}
-
--- keys in the front of a text, and a newline behind them
-keys_line : (keys out : List ℕ) → length keys < length out → Appends out (set (at_front keys out) (length keys) newline) 0 (length keys + 1) (keys ++ (newline ∷ []))
-keys_line keys out h = and_then_law in_front (byte_put (at_front keys out) (length keys) newline (omega (arith, as_long)))
-  where
-    as_long : length (at_front keys out) ≡ length out
-    as_long = simp (length-append, length-drop) (omega (arith, h))
-
-    in_front : Appends out (at_front keys out) 0 (length keys) keys
-    in_front = record { moved = omega arith; within = omega (arith, as_long, h); long = as_long; front = read_front keys out (length keys) refl }
+use Rattle.lines.specs.Appending.{most_in_line}
 
 -- a text has no more letters than bytes, and a byte where no letter starts stands within it
 abbrev many : Reading → ℕ
@@ -118,30 +105,30 @@ fault_small ss =
 
 -- the refusal of a text, with no room asked
 module _ (m : ℕ) (text : List ℕ) where
-  pub text_small : (x : Refusal) → refusal (text_call m text) ≡ some x → x.value < 256
+  pub text_small : (x : Refusal) → refusal (text_call m text) ≡ Some x → x.value < 256
   unfolding refusal read
   text_small x e = go (not (is_mode m)) (ltb most_bytes (length text)) refl (read_from 0 0 text) (place_from 0 0 text) e
     where
       value : Option Refusal → ℕ
-      value none = 0
-      value (some y) = y.value
+      value None = 0
+      value (Some y) = y.value
 
       go : (p q : Bool) → ltb most_bytes (length text) ≡ q → (r : Reading) → stuck_place r ≤ 0 + length text
-          → elim p [ true ↦ some (record { number = 1; value = 0 }) | false ↦ elim q [ true ↦ some (record { number = 2; value = most_bytes }) | false ↦ elim (is_stuck r) [ true ↦ some (record { number = 6; value = stuck_place r }) | false ↦ elim (not (eqb (fault_of r) 0)) [ true ↦ some (record { number = 7; value = fault_of r }) | false ↦ none ] ] ] ] ≡ some x
+          → elim p [ true ↦ Some (record { number = 1; value = 0 }) | false ↦ elim q [ true ↦ Some (record { number = 2; value = most_bytes }) | false ↦ elim (is_stuck r) [ true ↦ Some (record { number = 6; value = stuck_place r }) | false ↦ elim (not (eqb (fault_of r) 0)) [ true ↦ Some (record { number = 7; value = fault_of r }) | false ↦ None ] ] ] ] ≡ Some x
           → x.value < 256
       go true q h r k f = let v : 0 ≡ x.value = ap value f in omega arith
       go false true h r k f = let v : most_bytes ≡ x.value = ap value f in omega arith
       go false false h (stuck_at n) k f = let v : n ≡ x.value = ap value f in omega (arith, ltb-false most_bytes (length text) h)
       go false false h (reading ss) k f = last (not (eqb (fault ss) 0)) f
         where
-          last : (c : Bool) → elim c [ true ↦ some (record { number = 7; value = fault ss }) | false ↦ none ] ≡ some x → x.value < 256
+          last : (c : Bool) → elim c [ true ↦ Some (record { number = 7; value = fault ss }) | false ↦ None ] ≡ Some x → x.value < 256
           last true d = let v : fault ss ≡ x.value = ap value d in omega (arith, fault_small ss)
           last false d = let z : ◌≡◌ {A = ℕ} 0 1 = cc in absurd (omega arith)
 
   few_where_none : NoneHolds (table (text_call m text)) → length (keys_of m (read text)) ≤ 193
   few_where_none (not_this range (not_this mode (not_this keys (not_this long more)))) = omega (arith, keys_few m text, nltb→le most_bytes (length text) long)
 
-  pub few_spelled : refusal (text_call m text) ≡ none → length (keys_of m (read text)) ≤ 193
+  pub few_spelled : refusal (text_call m text) ≡ None → length (keys_of m (read text)) ≤ 193
   few_spelled e = few_where_none ((refusal_none (text_call m text)).0 e)
 
   -- the same as the speller's, where there is room for a line
@@ -170,41 +157,41 @@ module _ (m : ℕ) (text : List ℕ) where
 
     -- by what was answered
     pub record Refuses (x : Refusal) (after : List ℕ) : Type 0 where
-      pub why : refusal (text_call m text) ≡ some x
+      pub why : refusal (text_call m text) ≡ Some x
       pub line : refused_line x ≡ spelled_line m text
       pub unchanged : after ≡ out
 
     pub record Spells (n : ℕ) (after : List ℕ) : Type 0 where
       pub few : n ≤ 193
       pub inside : n < length after
-      pub line : Appends out (set after n newline) 0 (n + 1) (spelled_line m text)
+      pub line : take n after ++ (newline ∷ []) ≡ spelled_line m text
 
-    module _ (r : WriteAnswer) (after : List ℕ) (a : r ≡ (spell m text out).answer) (o : after ≡ (spell m text out).output) where
-      pub refuses : (x : Refusal) → r ≡ Refused x → Refuses x after
+    module _ (r : Result ℕ Refusal) (after : List ℕ) (a : r ≡ (spell m text out).answer) (o : after ≡ (spell m text out).output) where
+      pub refuses : (x : Refusal) → r ≡ Err x → Refuses x after
       refuses x d = go (refusal (text_call m text)) refl
         where
           go : (p : Option Refusal) → refusal (text_call m text) ≡ p → Refuses x after
-          go none e =
-              let f : Wrote (length (keys_of m (read text))) ≡ Refused x = sym (ap (λ (w : Written). w.answer) (spells ∙ ap written e)) ∙ sym a ∙ d in
+          go None e =
+              let f : Ok (length (keys_of m (read text))) ≡ Err x = sym (ap (λ (w : Written). w.answer) (spells ∙ ap written e)) ∙ sym a ∙ d in
               let z : ◌≡◌ {A = ℕ} 0 1 = cc in
               absurd (omega arith)
-          go (some y) e =
-              let f : Refused y ≡ Refused x = sym (ap (λ (w : Written). w.answer) (spells ∙ ap written e)) ∙ sym a ∙ d in
+          go (Some y) e =
+              let f : Err y ≡ Err x = sym (ap (λ (w : Written). w.answer) (spells ∙ ap written e)) ∙ sym a ∙ d in
               let g : y ≡ x = cc in
-              let h = e ∙ ap (λ (u : Refusal). some u) g in
+              let h = e ∙ ap (λ (u : Refusal). Some u) g in
               record { why = h; line = sym (ap (λ (p : Option Refusal). spelled_or p m text) h); unchanged = o ∙ ap (λ (w : Written). w.output) (spells ∙ ap written e) }
 
-      pub spelled : (n : ℕ) → r ≡ Wrote n → Spells n after
+      pub spelled : (n : ℕ) → r ≡ Ok n → Spells n after
       spelled n d = go (refusal (text_call m text)) refl
         where
           go : (p : Option Refusal) → refusal (text_call m text) ≡ p → Spells n after
-          go (some y) e =
-              let f : Refused y ≡ Wrote n = sym (ap (λ (w : Written). w.answer) (spells ∙ ap written e)) ∙ sym a ∙ d in
+          go (Some y) e =
+              let f : Err y ≡ Ok n = sym (ap (λ (w : Written). w.answer) (spells ∙ ap written e)) ∙ sym a ∙ d in
               let z : ◌≡◌ {A = ℕ} 0 1 = cc in
               absurd (omega arith)
-          go none e =
+          go None e =
               let keys = keys_of m (read text) in
-              let f : Wrote (length keys) ≡ Wrote n = sym (ap (λ (w : Written). w.answer) (spells ∙ ap written e)) ∙ sym a ∙ d in
+              let f : Ok (length keys) ≡ Ok n = sym (ap (λ (w : Written). w.answer) (spells ∙ ap written e)) ∙ sym a ∙ d in
               let g : n ≡ length keys = cc in
               let h : after ≡ at_front keys out = o ∙ ap (λ (w : Written). w.output) (spells ∙ ap written e) in
               let k : length keys < length out = omega (arith, few_spelled e) in
@@ -212,6 +199,6 @@ module _ (m : ℕ) (text : List ℕ) where
                 few = omega (arith, g, few_spelled e);
                 inside = omega (arith, g, k, ap length h, length-append keys (drop (length keys) out), length-drop (length keys) out);
                 line =
-                    subst (λ (l : List ℕ). Appends out (set after n newline) 0 (n + 1) l) (sym (ap (λ (p : Option Refusal). spelled_or p m text) e))
-                    (subst (λ (l : List ℕ). Appends out (set l n newline) 0 (n + 1) (keys ++ (newline ∷ []))) (sym h) (subst (λ (i : ℕ). Appends out (set (at_front keys out) i newline) 0 (i + 1) (keys ++ (newline ∷ []))) (sym g) (keys_line keys out k)));
+                    ap (λ (l : List ℕ). l ++ (newline ∷ [])) (ap (take n) h ∙ read_front keys out n (sym g)) ∙
+                    sym (ap (λ (p : Option Refusal). spelled_or p m text) e);
               }

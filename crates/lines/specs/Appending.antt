@@ -1,16 +1,17 @@
 -- What is said of a function that writes a part of an answer line behind what is already written, and of the sizes that it can meet.
-use Rattle.std.specs.Prelude.{◌≡◌, List, [], ◌∷◌, ◌++◌, ℕ, ◌+◌, ◌≤◌, ◌<◌, length, take}
+use Rattle.std.specs.Prelude.{◌≡◌, List, [], ◌∷◌, ◌++◌, ℕ, ◌+◌, ◌<◌, length, take, Option, Some, None}
 use Prim.Native.Char.{code}
 use Rattle.rules.specs.Drill.{joined}
-use Rattle.rules.specs.declared.Place.{Place}
-use Rattle.rules.specs.declared.Place.TheVariants.{At, Nowhere}
+use Rattle.lines.specs.declared.line.Line.{Line}
 
--- the buffer before and after, the place where the part begins and the place behind it
-pub record Appends (before after : List ℕ) (at next : ℕ) (part : List ℕ) : Type 0 where
-  pub moved : next ≡ at + length part
-  pub within : next ≤ length after
-  pub long : length after ≡ length before
-  pub front : take next after ≡ take at before ++ part
+-- the bytes that a line holds
+abbrev pub held : Line → List ℕ
+held l = take l.at l.text
+
+-- a line before and after these bytes are written behind what it holds
+pub record Appends (before after : Line) (part : List ℕ) : Type 0 where
+  pub moved : after.at ≡ before.at + length part
+  pub front : held after ≡ held before ++ part
 
 -- columns with a space between two, and a byte that ends them
 abbrev pub ended_by : ℕ → List (List ℕ) → List ℕ
@@ -24,6 +25,6 @@ abbrev pub most_a_byte : ℕ
 most_a_byte = 12
 
 -- a place that fits a byte
-abbrev pub SmallPlace : Place → Type 0
-SmallPlace (At n) = n < 256
-SmallPlace Nowhere = Unit {0}
+abbrev pub SmallPlace : Option ℕ → Type 0
+SmallPlace (Some n) = n < 256
+SmallPlace None = Unit {0}

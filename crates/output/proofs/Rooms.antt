@@ -1,4 +1,5 @@
 -- The answer by its one test: no room is refusal 4 with the bytes needed and the output as it was; else the text stands at the front. It is refused exactly then.
+use Rattle.std.specs.Prelude.{Ok, Err}
 use mathlib.Core.Path.{◌≡◌, ap}
 use mathlib.Core.List.{List, ◌++◌}
 use mathlib.Core.Logic.{◌↔◌}
@@ -10,17 +11,16 @@ use Rattle.rules.specs.TheWord.{at_front}
 use Rattle.rules.specs.Refusals.{refusal, table, FirstOf}
 use Rattle.rules.specs.AnswersInNumbers.{refusing, write_says}
 use Rattle.rules.specs.declared.Refusal.{Refusal}
-use Rattle.rules.specs.declared.WriteAnswer.TheVariants.{Wrote, Refused}
 use Rattle.rules.proofs.Refused.{write_exactly, write_refused}
 use Rattle.rules.specs.WhatComesBack.{room_call}
 use Rattle.output.specs.Front.{put}
 
 module _ (text out : List ℕ) where
-  pub no_room : length out < length text → put text out ≡ record { answer = Refused (record { number = 4; value = length text }); output = out }
+  pub no_room : length out < length text → put text out ≡ record { answer = Err (record { number = 4; value = length text }); output = out }
   unfolding put refusal
   no_room h = simp (lt-ltb (length out) (length text) h)
 
-  pub has_room : length text ≤ length out → put text out ≡ record { answer = Wrote (length text); output = at_front text out }
+  pub has_room : length text ≤ length out → put text out ≡ record { answer = Ok (length text); output = at_front text out }
   unfolding put refusal
   has_room h = simp (le-ltb (length out) (length text) h)
 

@@ -1,8 +1,8 @@
 -- qu and gi, on numbers.
 use mathlib.Core.Path.{◌≡◌, refl, sym, ap₂, ◌∙◌}
-use mathlib.Core.Bool.{Bool, false, not, ◌&&◌, ◌||◌, or-false}
+use mathlib.Core.Bool.{Bool, true, false, not, ◌&&◌, ◌||◌, or-false}
 use mathlib.Core.List.{List, [], ◌∷◌, map}
-use Prim.Native.Nat.{ℕ, suc, ◌<◌, ◌%◌, ◌/◌}
+use Prim.Native.Nat.{ℕ, ◌+◌, ◌<◌, ◌%◌, ◌/◌}
 use native.Mathlib.Omega.{arith}
 use lib.Dec.{eqb}
 use lib.ListN.{length, get_or}
@@ -38,19 +38,12 @@ is_plain n b h =
 abbrev joined : (x y : ℕ) → Bool → Bool
 joined x y another = (eqb x (code "q") && eqb (y % 2048) (code "u")) || (eqb x (code "g") && (eqb (y % 256) (code "i") && another))
 
-joined_is : (ns ms : List ℕ) → length ns ≡ 1 → (length ms ≡ 0 → ⊥) → joined (get_or ns 0 0 % 2048) (get_or ms 0 0) (not (eqb (length ms) 1)) ≡ joins (map letter ns) (map letter ms)
-unfolding joins
-joined_is [] ms e f = absurd (omega arith)
-joined_is (n ∷ k ∷ ks) ms e f = absurd (omega arith)
-joined_is (n ∷ []) [] e f = absurd (f refl)
-joined_is (n ∷ []) (m ∷ ms) e f =
-    λ j. ((is_plain n (code "q") (omega arith) ∙ only _) j && is_plain m (code "u") (omega arith) j) || ((is_plain n (code "g") (omega arith) ∙ only _) j && (eqb (m % 256) (code "i") && not (another ms j)))
-  where
-    another : (ks : List ℕ) → eqb (suc (length ks)) 1 ≡ is_nil (map letter ks)
-    another [] = refl
-    another (k ∷ ks) = ne_eqb (suc (suc (length ks))) 1 (omega arith)
+another : (ks : List ℕ) (r : ℕ) → r ≡ length ks → eqb r 0 ≡ is_nil (map letter ks)
+another [] r e = eq-eqb r 0 e
+another (k ∷ ks) r e = ne_eqb r 0 (omega arith)
 
-module _ (ns ms : List ℕ) (one : length ns ≡ 1) (some : length ms ≡ 0 → ⊥) where
+-- one letter before, and a run of r letters past its first
+module _ (ns ms : List ℕ) (r : ℕ) (one : length ns ≡ 1) (some : r + 1 ≡ length ms) where
   abbrev x : ℕ
   x = get_or ns 0 0 % 2048
 
@@ -58,11 +51,27 @@ module _ (ns ms : List ℕ) (one : length ns ≡ 1) (some : length ms ≡ 0 → 
   y = get_or ms 0 0
 
   abbrev gi : Bool
-  gi = eqb (y % 256) (code "i") && not (eqb (length ms) 1)
+  gi = eqb (y % 256) (code "i") && not (eqb r 0)
+
+  joined_is : joined x y (not (eqb r 0)) ≡ joins (map letter ns) (map letter ms)
+  unfolding joins
+  joined_is = go ns ms one some
+    where
+      go : (ns ms : List ℕ) → length ns ≡ 1 → r + 1 ≡ length ms → joined (get_or ns 0 0 % 2048) (get_or ms 0 0) (not (eqb r 0)) ≡ joins (map letter ns) (map letter ms)
+      go [] ms e f = absurd (omega arith)
+      go (n ∷ k ∷ ks) ms e f = absurd (omega arith)
+      go (n ∷ []) [] e f = absurd (omega arith)
+      go (n ∷ []) (m ∷ ms) e f =
+          λ j. ((is_plain n (code "q") (omega arith) ∙ only _) j && is_plain m (code "u") (omega arith) j) || ((is_plain n (code "g") (omega arith) ∙ only _) j && (eqb (m % 256) (code "i") && not (another ms r (omega arith) j)))
+
+  by : (q g : Bool) → eqb x (code "q") ≡ q → eqb x (code "g") ≡ g → ((q && eqb (y % 2048) (code "u")) || (g && gi)) ≡ joins (map letter ns) (map letter ms)
+  by q g eq eg = (λ j. (sym eq j && eqb (y % 2048) (code "u")) || (sym eg j && gi)) ∙ joined_is
 
   pub after_q : x ≡ code "q" → eqb (y % 2048) (code "u") ≡ joins (map letter ns) (map letter ms)
-  after_q e =
-      sym (or-false _) ∙ (λ j. (sym (eq-eqb x (code "q") e) j && eqb (y % 2048) (code "u")) || (sym (ne_eqb x (code "g") (omega arith)) j && gi)) ∙ joined_is ns ms one some
+  after_q e = sym (or-false _) ∙ by true false (eq-eqb x (code "q") e) (ne_eqb x (code "g") (omega arith))
 
-  pub not_q : (x ≡ code "q" → ⊥) → (eqb x (code "g") && gi) ≡ joins (map letter ns) (map letter ms)
-  not_q n = (λ j. (sym (ne_eqb x (code "q") n) j && eqb (y % 2048) (code "u")) || (eqb x (code "g") && gi)) ∙ joined_is ns ms one some
+  pub after_g : x ≡ code "g" → gi ≡ joins (map letter ns) (map letter ms)
+  after_g e = by false true (ne_eqb x (code "q") (omega arith)) (eq-eqb x (code "g") e)
+
+  pub neither : (x ≡ code "q" → ⊥) → (x ≡ code "g" → ⊥) → false ≡ joins (map letter ns) (map letter ms)
+  neither m n = by false false (ne_eqb x (code "q") m) (ne_eqb x (code "g") n)

@@ -1,15 +1,10 @@
--- A run of vowel letters or of others from a place of a list: one turn of the loop, and its two ends.
-use mathlib.Core.Path.{◌≡◌}
-use mathlib.Core.Bool.{Bool, true, false, not, beq}
-use mathlib.Core.List.{List, map}
-use Prim.Native.Nat.{ℕ, ◌+◌, ◌≤◌, ◌<◌, ◌%◌}
-use native.Mathlib.Numerals.{add-one}
-use native.Mathlib.Omega.{arith}
-use lib.ListN.{length, drop, get_or, drop_of_length-le}
-use lib.Seq.{drop-cons}
-use borrow.Author.Tests.{not-true, not-false}
+-- The run of vowel letters or of others at the front of a list is as long as the first place of another kind says.
+use mathlib.Core.Bool.{beq}
+use Rattle.std.proofs.Common.{◌≡◌, ◌∙◌, ap, refl, map, length, ℕ, ◌+◌, ◌%◌, Bool, true, false, not, cond, List, [], ◌∷◌, arith}
+use Rattle.std.specs.List.{position_or_len}
+use Rattle.rules.specs.Letters.{Letter, Letters}
 use Rattle.rules.specs.TheWord.{letter}
-use Rattle.rules.specs.TakingApart.{vowel, is_kind, front}
+use Rattle.rules.specs.TakingApart.{vowel, is_kind, front_if, front}
 
 kind : (v r : Bool) (b : ℕ) → r ≡ vowel b → is_kind v b ≡ beq r v
 kind true true b e = rw (← e)
@@ -17,15 +12,16 @@ kind true false b e = rw (← e)
 kind false true b e = rw (← e)
 kind false false b e = rw (← e)
 
-module _ (v : Bool) (s : List ℕ) (i : ℕ) where
-  abbrev end : ℕ
-  end = i + length (front v (map letter (drop i s)))
+-- a letter of another kind
+abbrev pub other : Bool → ℕ → Bool
+other v n = not (beq (vowel (n % 256)) v)
 
-  pub past_all : length s ≤ i → i ≡ end
-  past_all h = simp (drop_of_length-le s h) (omega arith)
+step : (t : Bool) (x : Letter) (w : Letters) (n : ℕ) → length w ≡ n → length (front_if t x w) ≡ cond (not (not t)) (1 + n) 0
+step true x w n e = omega arith
+step false x w n e = refl
 
-  pub stops : (r : Bool) → i < length s → r ≡ vowel (get_or s i 0 % 256) → not (beq r v) ≡ true → i ≡ end
-  stops r h e n = simp (drop-cons s i 0 h, kind v r (get_or s i 0 % 256) e, not-true (beq r v) n) (omega arith)
-
-  pub goes : (r : Bool) → i < length s → r ≡ vowel (get_or s i 0 % 256) → not (beq r v) ≡ false → (i + 1) + length (front v (map letter (drop (i + 1) s))) ≡ end
-  goes r h e n = simp (add-one, drop-cons s i 0 h, kind v r (get_or s i 0 % 256) e, not-false (beq r v) n) (omega arith)
+pub run_length : (v : Bool) (s : List ℕ) → length (front v (map letter s)) ≡ position_or_len (other v) s
+run_length v [] = refl
+run_length v (x ∷ xs) =
+    ap (λ (t : Bool). length (front_if t (letter x) (front v (map letter xs)))) (kind v (vowel (x % 256)) (x % 256) refl) ∙
+    step (beq (vowel (x % 256)) v) (letter x) (front v (map letter xs)) _ (run_length v xs)

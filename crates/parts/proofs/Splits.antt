@@ -5,7 +5,8 @@ use mathlib.Core.List.{List, [], ◌∷◌, ◌++◌, map, append_assoc}
 use Prim.Native.Nat.{ℕ, zero, suc, ◌+◌, ◌-◌, ◌≤◌}
 use native.Mathlib.Omega.{arith}
 use lib.Dec.{eqb}
-use lib.ListN.{length, take, drop, length-append, length-map}
+use lib.ListN.{length, take, drop, length-append, length-drop, length-map}
+use Rattle.std.proofs.lemmas.List.{take_all}
 use lib.Seq.{take-append_seam, drop-append_seam}
 use borrow.Author.Tests.{eq-eqb, ne_eqb}
 use Rattle.rules.specs.Letters.{Letters, is_nil}
@@ -34,6 +35,9 @@ part : (s : List ℕ) (i k : ℕ) (a b d : Letters) → a ++ (b ++ d) ≡ map le
 part s i k a b d e ei ek =
     let m : k - i ≡ length b = omega arith in
     map_take (k - i) (drop i s) ∙ ap (take (k - i)) (map_drop i s) ∙ (λ j. take (m j) (drop (ei j) (sym e j))) ∙ middle a b d
+
+front_part : (s : List ℕ) (k : ℕ) (b d : Letters) → b ++ d ≡ map letter s → k ≡ length b → map letter (take k s) ≡ b
+front_part s k b d e ek = map_take k s ∙ (λ j. take (ek j) (sym e j)) ∙ take-append_seam b d
 
 -- an answer of `apart`, and the parts that it cuts
 pub record Cut (s : List ℕ) (i n f : ℕ) : Type 0 where
@@ -68,8 +72,15 @@ cut s r e =
       left = nil_length (leftovers w) r.end (length s) (omega arith);
     }
 
+-- what stands from a place on
+abbrev from : ℕ → List ℕ → List ℕ
+from n s = take (length s - n) (drop n s)
+
+from_is : (n : ℕ) (s : List ℕ) → from n s ≡ drop n s
+from_is n s = take_all (length s - n) (drop n s) (omega (arith, length-drop n s))
+
 -- where the runs end, and so the parts
-module _ (s : List ℕ) (o v f : ℕ) (eo : o ≡ 0 + length (front false (map letter (drop 0 s)))) (ev : v ≡ o + length (front true (map letter (drop o s)))) (ef : f ≡ v + length (front false (map letter (drop v s)))) where
+module _ (s : List ℕ) (o v f : ℕ) (eo : o ≡ length (front false (map letter s))) (ev : v ≡ o + length (front true (map letter (from o s)))) (ef : f ≡ v + length (front false (map letter (from v s)))) where
   abbrev w : Letters
   w = map letter s
 
@@ -80,7 +91,7 @@ module _ (s : List ℕ) (o v f : ℕ) (eo : o ≡ 0 + length (front false (map l
   past_o = map_drop o s ∙ (λ j. drop (o_is j) (sym (split false w) j)) ∙ drop-append_seam (before w) (past false w)
 
   v_is : v ≡ o + length (run w)
-  v_is = ev ∙ ap (λ (l : Letters). o + length (front true l)) past_o
+  v_is = ev ∙ ap (λ (l : Letters). o + length (front true l)) (ap (map letter) (from_is o s) ∙ past_o)
 
   past_v : map letter (drop v s) ≡ past true (past false w)
   past_v =
@@ -89,16 +100,11 @@ module _ (s : List ℕ) (o v f : ℕ) (eo : o ≡ 0 + length (front false (map l
 
   f_is : f ≡ v + length (final w)
   unfolding final
-  f_is = ef ∙ ap (λ (l : Letters). v + length (front false l)) past_v
+  f_is = ef ∙ ap (λ (l : Letters). v + length (front false l)) (ap (map letter) (from_is v s) ∙ past_v)
 
-  pub ends : (o ≤ v) × (v ≤ f) × (f ≤ length s)
-  ends =
-      let l : length (before w) + (length (run w) + (length (final w) + length (leftovers w))) ≡ length s = sym (simp length-append) ∙ ap length (halves w) ∙ length-map s letter in
-      omega (arith, o_is, v_is, f_is)
-
-  pub joins_is : joins (map letter (take (o - 0) (drop 0 s))) (map letter (take (v - o) (drop o s))) ≡ joins (before w) (run w)
+  pub joins_is : joins (map letter (take o s)) (map letter (take (v - o) (drop o s))) ≡ joins (before w) (run w)
   joins_is =
-      ap₂ joins (part s 0 o [] (before w) _ (halves w) refl (omega (arith, o_is))) (part s o v (before w) (run w) _ (halves w) o_is (v_is ∙ ap (λ (n : ℕ). n + length (run w)) o_is))
+      ap₂ joins (front_part s o (before w) _ (halves w) o_is) (part s o v (before w) (run w) _ (halves w) o_is (v_is ∙ ap (λ (n : ℕ). n + length (run w)) o_is))
 
   -- the parts, by whether the first of the run goes to the initial
   abbrev parts_by : Bool → Parts
@@ -118,9 +124,9 @@ module _ (s : List ℕ) (o v f : ℕ) (eo : o ≡ 0 + length (front false (map l
   pub plain : joins (before w) (run w) ≡ false → record { initial = o; nucleus = v; end = f } ≡ parts_of w
   plain e = by false o e o_is v_is
 
-  pub joined : joins (before w) (run w) ≡ true → (o + 1 ≤ v) × (record { initial = o + 1; nucleus = v; end = f } ≡ parts_of w)
-  joined e = let l = go (run w) v_is e in (l.0, by true (o + 1) e l.1 l.2)
+  pub joined : joins (before w) (run w) ≡ true → record { initial = o + 1; nucleus = v; end = f } ≡ parts_of w
+  joined e = let l = go (run w) v_is e in by true (o + 1) e l.0 l.1
     where
-      go : (u : Letters) → v ≡ o + length u → joins (before w) u ≡ true → (o + 1 ≤ v) × (o + 1 ≡ length (initial_of true (before w) u)) × (v ≡ (o + 1) + length (nucleus_of true u))
+      go : (u : Letters) → v ≡ o + length u → joins (before w) u ≡ true → (o + 1 ≡ length (initial_of true (before w) u)) × (v ≡ (o + 1) + length (nucleus_of true u))
       go [] eu t = let z : ◌≡◌ {A = ℕ} 0 1 = cc (joins_none (before w)) in absurd (omega arith)
-      go (x ∷ xs) eu t = (omega arith, simp length-append (omega (arith, o_is)), omega arith)
+      go (x ∷ xs) eu t = (simp length-append (omega (arith, o_is)), omega arith)

@@ -1,22 +1,19 @@
 -- The mode in a part at the start of a recording is that of the whole recording, and a step at a place of a part is the step at that place of the whole, its places counted from the recording's start.
-use Rattle.std.proofs.Common.{◌≡◌, ℕ, ◌+◌, ◌<◌, ◌≤◌, Bool, true, false, ltb, ◌⊎◌, List, [], ◌++◌, length, drop, sym, refl, ap, ◌∙◌, inl, inr, append-nil, arith, length-append, length-drop, drop-drop, ltb-false, ltb-true}
-use mathlib.Core.Option.{Option, none, some}
+use Rattle.std.proofs.Common.{◌≡◌, ℕ, ◌+◌, ◌<◌, ◌≤◌, Bool, true, false, ltb, ◌⊎◌, List, [], ◌++◌, length, drop, sym, refl, ap, ◌∙◌, inl, inr, append-nil, arith, length-append, length-drop, drop-drop, ltb-false, ltb-true, Option, Some, None, Ok}
 use lib.Seq.{drop-append-le}
-use Rattle.groups.specs.Numbers.{number, answer_of}
+use Rattle.groups.specs.Numbers.{number}
 use Rattle.groups.specs.declared.Number.{Number}
-use Rattle.groups.specs.declared.NumberAnswer.TheVariants.{Read}
 use Rattle.groups.proofs.BothWays.{number_within, number_front}
 use Rattle.recording.specs.Recordings.{press, onward, word_full, not_allowed, too_long, refused_for, refused_step, step_at, mode_read, begin}
 use Rattle.recording.specs.declared.Progress.{Progress}
 use Rattle.recording.specs.declared.KeyPress.{KeyPress}
-use Rattle.recording.specs.declared.Press.TheVariants.{Pressed}
 use Rattle.recording.specs.declared.Stepped.{Stepped}
 use Rattle.recording.proofs.Presses.{says_full, says_not_allowed, says_too_long, says_fine}
 use Rattle.recording.proofs.Steps.{ends_within, at_end, no_time, no_key, faulty_press, fine_press}
 use Rattle.playing.specs.Parts.{IsPart, Enough, ten_bytes, no_more, later}
 
 abbrev pressed_to : KeyPress → ℕ → Progress → Stepped
-pressed_to x next p = record { press = Pressed x; at = next; progress = onward p x }
+pressed_to x next p = record { press = Ok (Some x); at = next; progress = onward p x }
 
 module _ (s v rest : List ℕ) (start : ℕ) (part : IsPart s start v rest) where
   -- behind a place of the part
@@ -46,27 +43,27 @@ module _ (s v rest : List ℕ) (start : ℕ) (part : IsPart s start v rest) wher
         inside_all : start + at < length s
         inside_all = omega (arith, ap length (behind at (omega arith)), length-append (drop at v) rest, length-drop at v, length-drop (start + at) s)
 
-        module _ (t : Number) (e : number (drop at v) ≡ some t) where
-          time_all : number (drop (start + at) s) ≡ some t
+        module _ (t : Number) (e : number (drop at v) ≡ Some t) where
+          time_all : number (drop (start + at) s) ≡ Some t
           time_all = same_number at (omega arith) (five at (omega arith)) ∙ e
 
           key_all : number (drop (start + at + t.groups) s) ≡ number (drop (at + t.groups) v)
           key_all =
               ap (λ (j : ℕ). number (drop j s)) (more_behind t.groups) ∙
-              same_number (at + t.groups) (ends_within v at t (sym (ap answer_of e))) (five (at + t.groups) (omega (arith, (number_within (drop at v) t e).2)))
+              same_number (at + t.groups) (ends_within v at t (sym e)) (five (at + t.groups) (omega (arith, (number_within (drop at v) t e).2)))
 
-          module _ (k : Number) (f : number (drop (at + t.groups) v) ≡ some k) where
-            time_says : Read t ≡ answer_of (number (drop at v))
-            time_says = sym (ap answer_of e)
+          module _ (k : Number) (f : number (drop (at + t.groups) v) ≡ Some k) where
+            time_says : Some t ≡ number (drop at v)
+            time_says = sym e
 
-            time_says_all : Read t ≡ answer_of (number (drop (start + at) s))
-            time_says_all = sym (ap answer_of time_all)
+            time_says_all : Some t ≡ number (drop (start + at) s)
+            time_says_all = sym time_all
 
-            key_says : Read k ≡ answer_of (number (drop (at + t.groups) v))
-            key_says = sym (ap answer_of f)
+            key_says : Some k ≡ number (drop (at + t.groups) v)
+            key_says = sym f
 
-            key_says_all : Read k ≡ answer_of (number (drop (start + at + t.groups) s))
-            key_says_all = sym (ap answer_of (key_all ∙ f))
+            key_says_all : Some k ≡ number (drop (start + at + t.groups) s)
+            key_says_all = sym (key_all ∙ f)
 
             by_tests : (x y z : Bool) → word_full p k.value ≡ x → not_allowed p k.value ≡ y → too_long p t.value ≡ z → Same
             by_tests true y z full b c =
@@ -86,15 +83,15 @@ module _ (s v rest : List ℕ) (start : ℕ) (part : IsPart s start v rest) wher
                 ap (later start) (fine_press v at p t inside time_says k key_says (sym (says_fine p t.value k.value (at + t.groups) at room known short)))
 
           by_key : (o : Option Number) → number (drop (at + t.groups) v) ≡ o → Same
-          by_key none f =
-              sym (no_key s (start + at) p t inside_all (sym (ap answer_of time_all)) (sym (ap answer_of (key_all ∙ f)))) ∙ ap (λ (j : ℕ). refused_step 10 j (start + at) p) (more_behind t.groups) ∙
-              ap (later start) (no_key v at p t inside (sym (ap answer_of e)) (sym (ap answer_of f)))
-          by_key (some k) f = by_tests k f (word_full p k.value) (not_allowed p k.value) (too_long p t.value) refl refl refl
+          by_key None f =
+              sym (no_key s (start + at) p t inside_all (sym time_all) (sym (key_all ∙ f))) ∙ ap (λ (j : ℕ). refused_step 10 j (start + at) p) (more_behind t.groups) ∙
+              ap (later start) (no_key v at p t inside (sym e) (sym f))
+          by_key (Some k) f = by_tests k f (word_full p k.value) (not_allowed p k.value) (too_long p t.value) refl refl refl
 
         by_time : (o : Option Number) → number (drop at v) ≡ o → Same
-        by_time none e =
-            sym (no_time s (start + at) p inside_all (sym (ap answer_of (same_number at (omega arith) (five at (omega arith)) ∙ e)))) ∙ ap (later start) (no_time v at p inside (sym (ap answer_of e)))
-        by_time (some t) e = by_key t e (number (drop (at + t.groups) v)) refl
+        by_time None e =
+            sym (no_time s (start + at) p inside_all (sym ((same_number at (omega arith) (five at (omega arith)) ∙ e)))) ∙ ap (later start) (no_time v at p inside (sym e))
+        by_time (Some t) e = by_key t e (number (drop (at + t.groups) v)) refl
 
       ended : Enough at v rest → length v ≤ at → length s ≤ start + at
       ended (ten_bytes t) h = absurd (omega arith)

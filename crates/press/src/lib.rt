@@ -4,18 +4,12 @@
 ghost use Rattle.std.specs.Prelude.{◌≡◌};
 ghost use Rattle.press.specs.StepAndShow.{step_and_show};
 
-use rules::{Outcome, Refusal, StepAnswer, Word, WriteAnswer};
+use rules::{Outcome, Refusal, Word};
 
-// What typing a key and showing the word comes to: what the key did, with the bytes written.
-#[derive(Clone, Copy)]
-pub enum ShownAnswer {
-    Did(Outcome, usize),
-    Refused(Refusal),
-}
-
+// What typing a key and showing the word comes to: what the key did with the bytes written, or a refusal; and the word then.
 #[derive(Drop)]
 pub struct StepShown {
-    pub answer: ShownAnswer,
+    pub answer: Result<(Outcome, usize), Refusal>,
     pub word: Word,
 }
 
@@ -27,23 +21,23 @@ pub fn press(w: Word, key: u8, out: &mut [u8]) -> StepShown
     let stepped = step::step(w, key);
     let answer = stepped.answer;
     match answer {
-        StepAnswer::Did(outcome) => {
+        Ok(outcome) => {
             let next = stepped.word;
             let letters = next.letters;
             let count = next.count as usize;
             match show::text(&letters[0..count], next.tone, out) {
-                WriteAnswer::Wrote(bytes) => StepShown {
-                    answer: ShownAnswer::Did(outcome, bytes),
+                Ok(bytes) => StepShown {
+                    answer: Ok((outcome, bytes)),
                     word: next,
                 },
-                WriteAnswer::Refused(refusal) => StepShown {
-                    answer: ShownAnswer::Refused(refusal),
+                Err(refusal) => StepShown {
+                    answer: Err(refusal),
                     word: w,
                 },
             }
         }
-        StepAnswer::Refused(refusal) => StepShown {
-            answer: ShownAnswer::Refused(refusal),
+        Err(refusal) => StepShown {
+            answer: Err(refusal),
             word: w,
         },
     }

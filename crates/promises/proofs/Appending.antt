@@ -1,4 +1,5 @@
 -- `AppendedKey` of specs/Appending.antt, by the law on appending and the contract of step.
+use Rattle.std.specs.Prelude.{Ok, Result}
 use mathlib.Core.Path.{◌≡◌, sym, ap, subst, ◌∙◌}
 use Prim.Native.Nat.{ℕ}
 use native.Mathlib.Omega.{arith}
@@ -9,7 +10,6 @@ use Rattle.rules.specs.WhatComesBack.{step}
 use Rattle.rules.specs.Appending.{OneCase}
 use Rattle.rules.specs.declared.Outcome.{Outcome}
 use Rattle.rules.specs.declared.Outcome.TheVariants.{Acted, Undone, Appended}
-use Rattle.rules.specs.declared.StepAnswer.TheVariants.{Did}
 use Rattle.rules.specs.declared.Step.{Step}
 use Rattle.rules.proofs.Range.{in_range}
 use Rattle.rules.proofs.StaysInRange.{next, state_fine, taken_by}
@@ -18,8 +18,9 @@ use Rattle.rules.proofs.Appends.{appended_key}
 use Rattle.promises.specs.Appending.{AppendedKey}
 use Rattle.promises.proofs.AsDefined.{stepped}
 use Rattle.promises.proofs.FromNumbers.{did_as}
+use Rattle.rules.specs.declared.Refusal.{Refusal}
 
-is_appended_law : (o : Outcome) → Did o ≡ Did Appended → T (is_appended o)
+is_appended_law : (o : Outcome) → ◌≡◌ {A = Result Outcome Refusal} (Ok o) (Ok Appended) → T (is_appended o)
 is_appended_law (Acted a) e = let z : ◌≡◌ {A = ℕ} 0 1 = cc in absurd (omega arith)
 is_appended_law Undone e = let z : ◌≡◌ {A = ℕ} 0 1 = cc in absurd (omega arith)
 is_appended_law Appended e = tt
@@ -27,7 +28,7 @@ is_appended_law Appended e = tt
 pub appending : AppendedKey
 appending w k r a e =
     let s = stepped a in
-    let answer : (step w k).answer ≡ Did Appended = sym (ap (λ (x : Step). x.answer) s) ∙ did_as r.answer Appended e in
+    let answer : (step w k).answer ≡ Ok Appended = sym (ap (λ (x : Step). x.answer) s) ∙ did_as r.answer Appended e in
     let t = taken_by w k Appended answer in
     let does = accepted w k t.range t.room t.key in
     let fine = (next (word_of w) k t.key (state_fine w (in_range w t.range))).fine.letters in

@@ -1,8 +1,8 @@
 -- The calls of the box: what their contracts allow is the answer, or the refusal that the table gives, with the lent bytes as they were; and it is one result, and possible.
+use Rattle.std.specs.Prelude.{Option, Some, None, is_some}
 use mathlib.Core.Path.{◌≡◌, refl, sym, ap, ◌∙◌}
 use mathlib.Core.Bool.{Bool, true, false, ◌&&◌}
 use mathlib.Core.List.{List, []}
-use mathlib.Core.Option.{Option, none, some}
 use Prim.Native.Nat.{ℕ}
 use denote.Bor.{Bor}
 use denote.MutBor.{MutBor}
@@ -21,18 +21,18 @@ use Rattle.rules.specs.declared.Word.{Word}
 use Rattle.rules.specs.declared.Refusal.{Refusal}
 use Rattle.rules.proofs.Refused.{refusal_given, refusal_none}
 use Rattle.rules.proofs.Tests.{is_true, is_false}
-use Rattle.layout.specs.Places.{as_bytes, as_record, is_long, is_mark, byte, record_if, record_written}
+use Rattle.layout.specs.Places.{as_bytes, as_record, is_long, is_mark, byte, record_if, record_written, is_record, held}
 use Rattle.layout.proofs.Answers.{written}
 use Rattle.layout.proofs.RoundTrips.{read_whole}
 use Rattle.press.specs.StepAndShow.{Shown}
 use Rattle.felcantuzza.specs.Calls as Calls
 use Rattle.felcantuzza.specs.Calls.{returned, value_by, in_one, only_one, placed, unless_refused, of_record, shown_says, commit_or}
-use Rattle.promises.specs.Box.{FzStartAllows, FzTypeAllows, FzTypeAndShowAllows, FzShowAllows, FzVerdictAllows, FzPlaceAllows, FzDecisionAllows, FzCommitAllows, FzSpellAllows, OnBytes, held, is_record, press_call, BoxAnswers, BoxTight, BoxPossible}
+use Rattle.promises.specs.Box.{FzStartAllows, FzTypeAllows, FzTypeAndShowAllows, FzShowAllows, FzVerdictAllows, FzPlaceAllows, FzDecisionAllows, FzCommitAllows, FzSpellAllows, OnBytes, press_call, BoxAnswers, BoxTight, BoxPossible}
 use Rattle.promises.proofs.Pressed.{pressed_by, pressed}
 
 -- what came back is a definition over whether there is a record and over the refusal of the call
 module _ {R : Type 0} (b : Bool) (c : Call) (came_back : R) (over : Bool → Option Refusal → R) (e : came_back ≡ over b (refusal c)) (answer : R) (refused : Refusal → R)
-    (no_record : (o : Option Refusal) → over false o ≡ refused (record { number = 8; value = 0 })) (answered : T b → over true none ≡ answer) (refused_so : (x : Refusal) → over true (some x) ≡ refused x) where
+    (no_record : (o : Option Refusal) → over false o ≡ refused (record { number = 8; value = 0 })) (answered : T b → over true None ≡ answer) (refused_so : (x : Refusal) → over true (Some x) ≡ refused x) where
   there : T b → (o : Option Refusal) → refusal c ≡ o → came_back ≡ over true o
   there t o n = e ∙ (λ i. over (is_true b t i) (n i))
 
@@ -40,8 +40,8 @@ module _ {R : Type 0} (b : Bool) (c : Call) (came_back : R) (over : Bool → Opt
   on_bytes =
       record {
         no_record = λ t. e ∙ ap (λ (x : Bool). over x (refusal c)) (is_false b t) ∙ no_record (refusal c);
-        answers = λ t n. there t none ((refusal_none c).1 n) ∙ answered t;
-        refuses = λ t x f. there t (some x) ((refusal_given c x).1 f) ∙ refused_so x;
+        answers = λ t n. there t None ((refusal_none c).1 n) ∙ answered t;
+        refuses = λ t x f. there t (Some x) ((refusal_given c x).1 f) ∙ refused_so x;
       }
 
 -- a record is written whole into bytes that are as long as one
@@ -52,7 +52,7 @@ long : (lent : List ℕ) → T (is_record lent) → T (is_long lent)
 unfolding as_record
 long lent = go (is_long lent) (is_mark (byte 3 lent))
   where
-    go : (p q : Bool) → T (record_if (p && q) lent).is_record → T p
+    go : (p q : Bool) → T (is_some (record_if (p && q) lent)) → T p
     go true q t = tt
     go false q t = t
 

@@ -31,7 +31,7 @@ use Rattle.speller.specs.contracts.spell as spell
 use Rattle.speller.proofs.spell.Reads as spell-reads
 use Rattle.lines.specs.contracts.answer_line as answer-line
 use Rattle.lines.proofs.answer_line.Reads as answer-line-reads
-use Rattle.session.specs.contracts.type_key as type-key
+use Rattle.session.specs.contracts.Session.type_key as type-key
 use Rattle.session.proofs.One.{KeyPost, type_key_says}
 use Rattle.felcantuzza.specs.contracts.fz_start as fz-start
 use Rattle.felcantuzza.proofs.fz_start.Reads as fz-start-reads
@@ -63,7 +63,7 @@ use Rattle.recording.specs.contracts.write as write
 use Rattle.recording.proofs.write.Reads as write-reads
 use Rattle.replay.specs.contracts.replay as replay
 use Rattle.replay.proofs.replay.Reads as replay-reads
-use Rattle.reader.specs.contracts.next_in as next-in
+use Rattle.reader.specs.contracts.Reader.next_in as next-in
 use Rattle.reader.proofs.One.{NextInPost, next_in_says}
 
 module _ {M : Type 1} {𝓤 : Ura M} (𝓛 : Logic 𝓤) (mem : Memory → SProp 𝓤) (run : Routine → Fun 𝓤) where

@@ -1,7 +1,7 @@
 -- The demands hold: `Demands` of specs/Demands.antt, by the laws on refusals and definitions, and the other files here.
+use Rattle.std.specs.Prelude.{Option, Some, None, Result, Ok, Err}
 use mathlib.Core.Path.{◌≡◌, refl, sym, ap, ◌∙◌}
 use mathlib.Core.List.{List, [], ◌∷◌}
-use mathlib.Core.Option.{Option, none, some}
 use mathlib.Core.Logic.{◌↔◌}
 use Prim.Native.Nat.{ℕ}
 use lib.ListN.{length, drop}
@@ -16,13 +16,12 @@ use Rattle.rules.specs.Drill.{word_line, line_or, keys_line, mode_of, line_by, a
 use Rattle.rules.specs.SpellProgram.{text_call, spelled_or, spell_line}
 use Rattle.rules.specs.declared.Word.{Word}
 use Rattle.rules.specs.declared.Refusal.{Refusal}
-use Rattle.rules.specs.declared.WriteAnswer.{WriteAnswer}
 use Rattle.rules.specs.declared.Decision.{Decision}
 use Rattle.rules.specs.declared.Decision.TheVariants.{Keep, Restore}
 use Rattle.rules.proofs.Refused.{one_or_the_other, refusal_given, refusal_none, write_exactly, start_exactly, step_exactly, type_exactly, place_exactly, verdict_exactly, decision_exactly, commit_exactly}
 use Rattle.commit.specs.Rulings.{decided as ruling_from, ruling_or, ruling_of, handed_from}
 use Rattle.commit.specs.declared.Ruling.{Ruling}
-use Rattle.commit.specs.declared.Ruling.TheVariants.{Keep as RulingKeep, Restore as RulingRestore, Refused as RulingRefused}
+use Rattle.commit.specs.declared.Ruling.TheVariants.{Keep, Restore}
 use Rattle.output.specs.Front.{put}
 use Rattle.lines.specs.Programs.{line_answer}
 use Rattle.session.specs.declared.Session.{Session}
@@ -41,8 +40,8 @@ use Rattle.promises.proofs.Replayed.{every_drill_typed, replay_is_typing, summar
 
 -- what came back is a definition over the refusal of the call, and says that refusal in numbers
 module _ {R : Type 0} (c : Call) (came_back : R) (over : Option Refusal → R) (e : came_back ≡ over (refusal c)) (says : R → Says)
-    (so : (x : Refusal) → says (over (some x)) ≡ refusing x) (given : (x : Refusal) → says (over (refusal c)) ≡ refusing x ↔ FirstOf (table c) x) where
-  exactly : Exactly c came_back (over none) (λ x. over (some x))
+    (so : (x : Refusal) → says (over (Some x)) ≡ refusing x) (given : (x : Refusal) → says (over (refusal c)) ≡ refusing x ↔ FirstOf (table c) x) where
+  exactly : Exactly c came_back (over None) (λ x. over (Some x))
   exactly = record { answers = λ n. e ∙ ap over ((refusal_none c).1 n); refuses = λ x f. e ∙ ap over ((refusal_given c x).1 f); only_then = λ x d. (given x).0 (ap says (sym e ∙ d) ∙ so x) }
 
 -- the numbers beside a word, a session or an output
@@ -50,7 +49,7 @@ abbrev says_of : {R : Type 0} → Says × R → Says
 says_of p = p.0
 
 -- an entry with an output: over the refusal of its call it is what is written of a text
-module _ (c : Call) (text before after : List ℕ) (r : WriteAnswer) (answer : r ≡ (write_or (refusal c) text before).answer) (output : after ≡ (write_or (refusal c) text before).output) where
+module _ (c : Call) (text before after : List ℕ) (r : Result ℕ Refusal) (answer : r ≡ (write_or (refusal c) text before).answer) (output : after ≡ (write_or (refusal c) text before).output) where
   exactly_written : Exactly {R = Says × List ℕ} c (write_says r, after) (answered (length text ∷ []), at_front text before) (λ x. (refusing x, before))
   exactly_written =
       exactly {R = Says × List ℕ} c (write_says r, after) (λ o. (write_says (write_or o text before).answer, (write_or o text before).output)) (λ i. (write_says (answer i), output i)) says_of (λ x. refl) (write_exactly c text before)
@@ -61,7 +60,7 @@ module _ {m : ℕ} {ks text part : List ℕ} (a : CommitAllows m ks text part) w
   unfolding ruling_of
   begins o n =
       a.post.1 ∙
-      ap (λ (r : Ruling). handed_from r a.args.1.0.ref_ptr a.args.1.1.0.ref_ptr) ((λ i. ruling_of (a.mode i) (a.keys i) (a.of_text i)) ∙ ap (λ (p : Option Refusal). ruling_or p m ks text) n)
+      ap (λ (r : Result Ruling Refusal). handed_from r a.args.1.0.ref_ptr a.args.1.1.0.ref_ptr) ((λ i. ruling_of (a.mode i) (a.keys i) (a.of_text i)) ∙ ap (λ (p : Option Refusal). ruling_or p m ks text) n)
 
   handed : (o : Option Refusal) → refusal (commit_call m ks text) ≡ o → part ≡ commit_or o m ks text
   unfolding commit
@@ -71,8 +70,8 @@ module _ {m : ℕ} {ks text part : List ℕ} (a : CommitAllows m ks text part) w
       (part ≡ handed_back d text ks) × (a.result.ref_ptr ≡ handed_from (ruling_from d text) a.args.1.0.ref_ptr a.args.1.1.0.ref_ptr)
   granted_as_decided d n e =
       let none_given = (refusal_none (commit_call m ks text)).1 n in (
-        handed none none_given ∙ ap (λ (x : Decision). handed_back x text ks) e,
-        begins none none_given ∙ ap (λ (x : Decision). handed_from (ruling_from x text) a.args.1.0.ref_ptr a.args.1.1.0.ref_ptr) e,
+        handed None none_given ∙ ap (λ (x : Decision). handed_back x text ks) e,
+        begins None none_given ∙ ap (λ (x : Decision). handed_from (ruling_from x text) a.args.1.0.ref_ptr a.args.1.1.0.ref_ptr) e,
       )
 
 -- a line's answer, by the table
@@ -113,13 +112,13 @@ demand_1 =
       asking = λ m ks text r a. exactly (commit_call m ks text) (commit_says r) (λ o. commit_says (granted_or o)) (ap commit_says (asked a)) (λ (s : Says). s) (λ x. refl) (commit_exactly m ks text);
       keeping = λ m ks text part a n e. granted_as_decided a Keep n e;
       restoring = λ m ks text part a n e. granted_as_decided a Restore n e;
-      not_committing = λ m ks text part x a f. let e = (refusal_given (commit_call m ks text) x).1 f in (handed a (some x) e, begins a (some x) e);
-      drill_answers = λ line n. drill_line line none ((refusal_none (type_call (mode_of line) (drop 2 line))).1 n);
-      drill_refuses = λ line x f. drill_line line (some x) ((refusal_given (type_call (mode_of line) (drop 2 line)) x).1 f);
-      drill_with_keys_answers = λ line n. drill_with_keys_line line none ((refusal_none (type_call (mode_of line) (drop 2 line))).1 n);
-      drill_with_keys_refuses = λ line x f. drill_with_keys_line line (some x) ((refusal_given (type_call (mode_of line) (drop 2 line)) x).1 f);
-      spell_answers = λ line n. spell_line_law line none ((refusal_none (text_call (mode_of line) (drop 2 line))).1 n);
-      spell_refuses = λ line x f. spell_line_law line (some x) ((refusal_given (text_call (mode_of line) (drop 2 line)) x).1 f);
+      not_committing = λ m ks text part x a f. let e = (refusal_given (commit_call m ks text) x).1 f in (handed a (Some x) e, begins a (Some x) e);
+      drill_answers = λ line n. drill_line line None ((refusal_none (type_call (mode_of line) (drop 2 line))).1 n);
+      drill_refuses = λ line x f. drill_line line (Some x) ((refusal_given (type_call (mode_of line) (drop 2 line)) x).1 f);
+      drill_with_keys_answers = λ line n. drill_with_keys_line line None ((refusal_none (type_call (mode_of line) (drop 2 line))).1 n);
+      drill_with_keys_refuses = λ line x f. drill_with_keys_line line (Some x) ((refusal_given (type_call (mode_of line) (drop 2 line)) x).1 f);
+      spell_answers = λ line n. spell_line_law line None ((refusal_none (text_call (mode_of line) (drop 2 line))).1 n);
+      spell_refuses = λ line x f. spell_line_law line (Some x) ((refusal_given (text_call (mode_of line) (drop 2 line)) x).1 f);
       drilling = λ line before after r a. exactly_written (room_call (answer_line line) before) (answer_line line) before after r (line_answer_law a) (line_output a);
       drilling_with_keys = λ line before after r a. exactly_written (room_call (answer_line_with_keys line) before) (answer_line_with_keys line) before after r (line_answer_law a) (line_output a);
       spelling_lines = λ line before after r a. exactly_written (room_call (spell_line line) before) (spell_line line) before after r (line_answer_law a) (line_output a);
@@ -162,10 +161,10 @@ tight =
     }
 
 -- where both slices begin at one place, so does the part
-at_one_place : (r : Ruling) (p : ℕ × ℕ) → p ≡ handed_from r p p
-at_one_place (RulingKeep n) p = refl
-at_one_place RulingRestore p = refl
-at_one_place (RulingRefused x) p = refl
+at_one_place : (r : Result Ruling Refusal) (p : ℕ × ℕ) → p ≡ handed_from r p p
+at_one_place (Ok (Keep n)) p = refl
+at_one_place (Ok Restore) p = refl
+at_one_place (Err x) p = refl
 
 possible : Possible
 possible =

@@ -1,4 +1,5 @@
 -- The word after each key: the statements of specs/EachKey.antt, by the laws on definitions and the contracts.
+use Rattle.std.specs.Prelude.{Ok}
 use mathlib.Core.Path.{◌≡◌, refl, sym, ap, subst, ◌∙◌}
 use mathlib.Core.Bool.{Bool, false, not}
 use mathlib.Core.List.{List, [], ◌∷◌, ◌++◌}
@@ -17,13 +18,8 @@ use Rattle.rules.specs.Refusals.{all, is_mode, out_of_range, refusal}
 use Rattle.rules.specs.WhatComesBack.{start, typed, type_all, Written}
 use Rattle.rules.specs.declared.Word.{Word}
 use Rattle.rules.specs.declared.Start.{Start}
-use Rattle.rules.specs.declared.StartAnswer.TheVariants.{Started}
 use Rattle.rules.specs.declared.Step.{Step}
 use Rattle.rules.specs.declared.TypeAll.{TypeAll}
-use Rattle.rules.specs.declared.TypeAnswer.TheVariants.{AllTyped}
-use Rattle.rules.specs.declared.PlaceAnswer.TheVariants.{Found}
-use Rattle.rules.specs.declared.VerdictAnswer.TheVariants.{Judged}
-use Rattle.rules.specs.declared.DecisionAnswer.TheVariants.{Decided}
 use Rattle.rules.proofs.Tests.{is_true}
 use Rattle.rules.proofs.Records.{accepted as not_refused}
 use Rattle.rules.proofs.Typing.{kept_mode, kept_keys, stepping, typing_is_stepping}
@@ -48,17 +44,17 @@ through no_key = refl
 through (key_and_more {ks = ks} a s) = ap (λ (r : Step). stepping r.word ks) (sym (stepped a)) ∙ through s
 
 module _ (m : ℕ) (ks : List ℕ) (ok : AcceptedKeys m ks) where
-  all_typed : type_all m ks ≡ record { answer = AllTyped; word = holding (new_word m) (typed m ks) }
+  all_typed : type_all m ks ≡ record { answer = Ok tt; word = holding (new_word m) (typed m ks) }
   unfolding type_all refusal
   all_typed =
       let e = ap not (is_true (is_mode m) ok.mode) in
       let n = is_true (all (is_key m) ks) ok.keys in
       simp (e, le-ltb most_keys (0 + length ks) (omega (arith, ok.few)), n)
 
-  pub accepted : (type_all m ks).answer ≡ AllTyped
+  pub accepted : (type_all m ks).answer ≡ Ok tt
   accepted = ap (λ (x : TypeAll). x.answer) all_typed
 
-  all_started : start m ≡ record { answer = Started; word = new_word m }
+  all_started : start m ≡ record { answer = Ok tt; word = new_word m }
   unfolding refusal
   all_started = let e = ap not (is_true (is_mode m) ok.mode) in simp e
 
@@ -85,9 +81,9 @@ module _ (m : ℕ) (ks : List ℕ) (ok : AcceptedKeys m ks) where
             let f = writes_state v range (typed m ks).state state_is before room in
             (ap write_says (shown_answer a ∙ ap (λ (x : Written). x.answer) f), shown_output a ∙ ap (λ (x : Written). x.output) f);
         places = subst PlacesTold (sym as_typed) (typed_told m ks accepted);
-        place = λ a. ap place_says (placed a ∙ finds v range ∙ ap (λ (z : State). Found (tone_place z.letters z.tone)) state_is);
-        judgement = λ a. ap verdict_says (judged a ∙ judges v range ∙ ap (λ (z : State). Judged (verdict z.letters z.tone)) state_is);
-        keep_or_restore = λ a. ap decision_says (decided a ∙ decides v range ∙ ap (λ (z : Typed). Decided (decision z)) word_is);
+        place = λ a. ap place_says (placed a ∙ finds v range ∙ ap (λ (z : State). Ok (tone_place z.letters z.tone)) state_is);
+        judgement = λ a. ap verdict_says (judged a ∙ judges v range ∙ ap (λ (z : State). Ok (verdict z.letters z.tone)) state_is);
+        keep_or_restore = λ a. ap decision_says (decided a ∙ decides v range ∙ ap (λ (z : Typed). Ok (decision z)) word_is);
         next = λ {k} {r} room key a. one_more v e in_range word_is k r room key a;
       }
 

@@ -1,4 +1,5 @@
 -- Demand 3, second half: `SecondHalf` of specs/EachSyllable.antt, by the law on each valid syllable and the contracts.
+use Rattle.std.specs.Prelude.{Ok}
 use mathlib.Core.Path.{◌≡◌, ap, ◌∙◌}
 use mathlib.Core.Bool.{false}
 use mathlib.Core.List.{List, ◌++◌}
@@ -11,8 +12,6 @@ use Rattle.rules.specs.Decision.{decision}
 use Rattle.rules.specs.Refusals.{is_mode, out_of_range}
 use Rattle.rules.specs.WhatComesBack.{typed, Written}
 use Rattle.rules.specs.declared.TypeAll.{TypeAll}
-use Rattle.rules.specs.declared.VerdictAnswer.TheVariants.{Judged}
-use Rattle.rules.specs.declared.DecisionAnswer.TheVariants.{Decided}
 use Rattle.rules.specs.declared.Decision.{Decision}
 use Rattle.rules.proofs.NotRefused.{judges, decides, typed_in_range, typed_word}
 use Rattle.rules.specs.Syllables.{open_word, bare_keys}
@@ -41,8 +40,8 @@ typed_gives m ks w t mode g r a =
       no_room = λ {before} short p.
           let f = no_room_for r.word range (open_word w t) state_is before short in
           (ap write_says (shown_answer p ∙ ap (λ (x : Written). x.answer) f), shown_output p ∙ ap (λ (x : Written). x.output) f);
-      verdict = λ p. ap verdict_says (judged p ∙ judges r.word range ∙ ap (λ (z : Typed). Judged (verdict z.state.letters z.state.tone)) word_is ∙ ap (λ (v : ℕ). Judged v) g.verdict_0);
-      decision = λ p. ap decision_says (decided p ∙ decides r.word range ∙ ap (λ (z : Typed). Decided (decision z)) word_is ∙ ap (λ (d : Decision). Decided d) g.kept);
+      verdict = λ p. ap verdict_says (judged p ∙ judges r.word range ∙ ap (λ (z : Typed). Ok (verdict z.state.letters z.state.tone)) word_is ∙ ap (λ (v : ℕ). Ok v) g.verdict_0);
+      decision = λ p. ap decision_says (decided p ∙ decides r.word range ∙ ap (λ (z : Typed). Ok (decision z)) word_is ∙ ap (λ (d : Decision). Ok d) g.kept);
     }
 
 pub second_half : SecondHalf

@@ -1,4 +1,5 @@
 -- An answer in numbers is of one answer only: what is said in the numbers of what a key did, of something written or of something granted is that answer.
+use Rattle.std.specs.Prelude.{Result, Ok, Err, ⊤}
 use mathlib.Core.Path.{◌≡◌, refl, sym, ap, ◌∙◌}
 use mathlib.Core.List.{List, [], ◌∷◌}
 use Prim.Native.Nat.{ℕ, zero, suc}
@@ -7,14 +8,7 @@ use Rattle.rules.specs.AnswersInNumbers.{Says, refused, answered, outcome_number
 use Rattle.rules.specs.declared.Act.TheVariants.{Tone, Shape, Stroke, Clear}
 use Rattle.rules.specs.declared.Outcome.{Outcome}
 use Rattle.rules.specs.declared.Outcome.TheVariants.{Acted, Undone, Appended}
-use Rattle.rules.specs.declared.StepAnswer.{StepAnswer}
-use Rattle.rules.specs.declared.StepAnswer.TheVariants.{Did, Refused}
-use Rattle.rules.specs.declared.WriteAnswer.{WriteAnswer}
-use Rattle.rules.specs.declared.WriteAnswer.TheVariants.{Wrote}
-use Rattle.rules.specs.declared.WriteAnswer.TheVariants.{Refused as WriteRefused}
-use Rattle.rules.specs.declared.CommitAnswer.{CommitAnswer}
-use Rattle.rules.specs.declared.CommitAnswer.TheVariants.{Granted}
-use Rattle.rules.specs.declared.CommitAnswer.TheVariants.{Refused as CommitRefused}
+use Rattle.rules.specs.declared.Refusal.{Refusal}
 
 -- what a key did, from its numbers
 abbrev outcome_from : List ℕ → Outcome
@@ -41,14 +35,14 @@ abbrev values : Says → List ℕ
 values (answered ns) = ns
 values (refused n v) = []
 
-pub did_as : (s : StepAnswer) (o : Outcome) → step_says s ≡ answered (outcome_numbers o) → s ≡ Did o
-did_as (Did x) o e = ap (λ (y : Outcome). Did y) (sym (from_numbers x) ∙ ap (λ (y : Says). outcome_from (values y)) e ∙ from_numbers o)
-did_as (Refused x) o e = let z : ◌≡◌ {A = ℕ} 0 1 = cc in absurd (omega arith)
+pub did_as : (s : Result Outcome Refusal) (o : Outcome) → step_says s ≡ answered (outcome_numbers o) → s ≡ Ok o
+did_as (Ok x) o e = ap (λ (y : Outcome). Ok y) (sym (from_numbers x) ∙ ap (λ (y : Says). outcome_from (values y)) e ∙ from_numbers o)
+did_as (Err x) o e = let z : ◌≡◌ {A = ℕ} 0 1 = cc in absurd (omega arith)
 
-pub wrote_as : (r : WriteAnswer) (n : ℕ) → write_says r ≡ answered (n ∷ []) → r ≡ Wrote n
-wrote_as (Wrote m) n e = let f : m ≡ n = cc in ap (λ (k : ℕ). Wrote k) f
-wrote_as (WriteRefused x) n e = let z : ◌≡◌ {A = ℕ} 0 1 = cc in absurd (omega arith)
+pub wrote_as : (r : Result ℕ Refusal) (n : ℕ) → write_says r ≡ answered (n ∷ []) → r ≡ Ok n
+wrote_as (Ok m) n e = let f : m ≡ n = cc in ap (λ (k : ℕ). Ok k) f
+wrote_as (Err x) n e = let z : ◌≡◌ {A = ℕ} 0 1 = cc in absurd (omega arith)
 
-pub granted_as : (c : CommitAnswer) → commit_says c ≡ answered [] → c ≡ Granted
-granted_as Granted e = refl
-granted_as (CommitRefused x) e = let z : ◌≡◌ {A = ℕ} 0 1 = cc in absurd (omega arith)
+pub granted_as : (c : Result ⊤ Refusal) → commit_says c ≡ answered [] → c ≡ Ok tt
+granted_as (Ok tt) e = refl
+granted_as (Err x) e = let z : ◌≡◌ {A = ℕ} 0 1 = cc in absurd (omega arith)

@@ -1,7 +1,7 @@
 -- Recorded drills: the statements of specs/Recorded.antt on numbers, the reader, walks and both round trips, and that the contracts leave one result and some result.
+use Rattle.std.specs.Prelude.{Some, Result, Ok, Err}
 use mathlib.Core.Path.{◌≡◌, refl, sym, ap, ap₂, subst, ◌∙◌}
 use mathlib.Core.List.{List, [], ◌∷◌, ◌++◌, map}
-use mathlib.Core.Option.{some}
 use mathlib.Core.Logic.{◌⊎◌, inl, inr}
 use Prim.Native.Nat.{ℕ, zero, suc, ◌-◌, ◌/◌, ◌%◌, ◌≤◌, ◌<◌}
 use native.Mathlib.Omega.{arith}
@@ -9,20 +9,15 @@ use lib.ListN.{length, take, drop, replicate}
 use lib.Seq.{take-append_seam, take_at}
 use Rattle.rules.specs.WhatComesBack.{Written}
 use Rattle.rules.specs.declared.Refusal.{Refusal}
-use Rattle.groups.specs.Numbers.{most_groups, number, written, answer_of, held}
+use Rattle.groups.specs.Numbers.{most_groups, number, written, held}
 use Rattle.groups.specs.declared.Groups.{Groups}
-use Rattle.groups.proofs.Reading.{was_some}
 use Rattle.groups.proofs.BothWays.{number_back, written_back, number_groups}
 use Rattle.recording.specs.Recordings.{step_at, begin, Reading, broken, presses, before as in_front, refused_at, drill, in_mode, recorded_after, recorded}
 use Rattle.recording.specs.Drills.{press_in, number_of, written_drill}
 use Rattle.recording.specs.declared.Progress.{Progress}
 use Rattle.recording.specs.declared.KeyPress.{KeyPress}
-use Rattle.recording.specs.declared.Press.TheVariants.{Pressed}
 use Rattle.recording.specs.declared.Stepped.{Stepped}
 use Rattle.recording.specs.declared.Begun.{Begun}
-use Rattle.recording.specs.declared.BeginAnswer.{BeginAnswer}
-use Rattle.recording.specs.declared.BeginAnswer.TheVariants.{Begins}
-use Rattle.recording.specs.declared.BeginAnswer.TheVariants.{Refused as BeginRefused}
 use Rattle.recording.proofs.Presses.{is_byte}
 use Rattle.recording.proofs.Meets.{Meets, the_end, a_refusal, a_press, meets, bytes_behind}
 use Rattle.recording.proofs.Readings.{rest_from, enough, met_press, met_refusal, met_end}
@@ -42,11 +37,11 @@ pub numbers_back : NumbersBack
 numbers_back n g bs rest at a below w here r =
     let e = number_written w in
     let front : drop at bs ≡ written n ++ rest = here ∙ ap (λ (gs : List ℕ). gs ++ rest) (its_groups n g e) in
-    number_read r ∙ ap answer_of (ap number front ∙ number_back n below rest) ∙ ap (λ (h : Groups). answer_of (some (record { value = n; groups = h.count }))) (sym e)
+    number_read r ∙ (ap number front ∙ number_back n below rest) ∙ ap (λ (h : Groups). (Some (record { value = n; groups = h.count }))) (sym e)
 
 pub bytes_back : BytesBack
 bytes_back bs at n g all r w =
-    let there = was_some (number (drop at bs)) n (number_read r) in
+    let there = sym (number_read r) in
     ap (take n.groups) (written_back (drop at bs) n there (bytes_behind at bs all)) ∙
     take_at (written n.value) (drop n.groups (drop at bs)) n.groups (sym (number_groups (drop at bs) n there)) ∙ sym (its_groups n.value g (number_written w))
 
@@ -77,10 +72,10 @@ module _ (s : List ℕ) where
       let m = met_press s at p (pressed_as a) x e in
       m.read ∙ ap (λ (q : Progress). in_front x (rest_from s t.at q)) (sym m.moved) ∙ ap (in_front x) (stopped w)
 
-  from_begun : (b : Begun) → BeginAllows s (Begins b) → (r : Reading) → rest_from s b.at b.progress ≡ r → recorded s ≡ in_mode b.progress.mode r
+  from_begun : (b : Begun) → BeginAllows s (Ok b) → (r : Reading) → rest_from s b.at b.progress ≡ r → recorded s ≡ in_mode b.progress.mode r
   unfolding recorded
   from_begun b a r e =
-      ap (λ (x : BeginAnswer). recorded_after x s) (sym (begun_as a)) ∙
+      ap (λ (x : Result Begun Refusal). recorded_after x s) (sym (begun_as a)) ∙
       ap (in_mode b.progress.mode) (enough s (length s) (length s - b.at) b.at b.progress (omega arith) (omega arith) ∙ e)
 
   pub read_as : {m : ℕ} {xs : List KeyPress} → Reads s m xs → recorded s ≡ drill m xs
@@ -88,7 +83,7 @@ module _ (s : List ℕ) where
 
   pub broken_as : {r : Refusal} → BrokenOff s r → recorded s ≡ refused_at r
   unfolding recorded
-  broken_as (at_the_mode a) = ap (λ (x : BeginAnswer). recorded_after x s) (sym (begun_as a))
+  broken_as (at_the_mode a) = ap (λ (x : Result Begun Refusal). recorded_after x s) (sym (begun_as a))
   broken_as {r = r} (at_a_step {b = b} a w) = from_begun b a (broken r) (stopped w)
 
   -- from any place there is a walk to the end, or to a refusal
@@ -102,7 +97,7 @@ module _ (s : List ℕ) where
   abbrev Goes : ℕ → Progress → Type 0
   Goes at p = ((xs : List KeyPress) × Walk s at p xs) ⊎ ((r : Refusal) × Stops s at p r)
 
-  and_before : {at : ℕ} {p : Progress} {t : Stepped} {x : KeyPress} → PressAllows s at p t → t.press ≡ Pressed x → Goes t.at t.progress → Goes at p
+  and_before : {at : ℕ} {p : Progress} {t : Stepped} {x : KeyPress} → PressAllows s at p t → t.press ≡ Ok (Some x) → Goes t.at t.progress → Goes at p
   and_before {x = x} a e (inl (xs, w)) = inl (x ∷ xs, pressed a e w)
   and_before a e (inr (r, w)) = inr (r, after_press a e w)
 
@@ -115,9 +110,9 @@ module _ (s : List ℕ) where
   goes zero at p h = one_step at p (step_at s at p) (possible_press at p) (meets s at p) (λ next q l i. absurd (omega arith))
   goes (suc n) at p h = one_step at p (step_at s at p) (possible_press at p) (meets s at p) (λ next q l i. goes n next q (omega arith))
 
-  by_begin : (b : BeginAnswer) → BeginAllows s b → ((m : ℕ) × (xs : List KeyPress) × Reads s m xs) ⊎ ((r : Refusal) × BrokenOff s r)
-  by_begin (BeginRefused r) a = inr (r, at_the_mode a)
-  by_begin (Begins b) a = go (goes (length s) b.at b.progress (omega arith))
+  by_begin : (b : Result Begun Refusal) → BeginAllows s b → ((m : ℕ) × (xs : List KeyPress) × Reads s m xs) ⊎ ((r : Refusal) × BrokenOff s r)
+  by_begin (Err r) a = inr (r, at_the_mode a)
+  by_begin (Ok b) a = go (goes (length s) b.at b.progress (omega arith))
     where
       go : Goes b.at b.progress → ((m : ℕ) × (xs : List KeyPress) × Reads s m xs) ⊎ ((r : Refusal) × BrokenOff s r)
       go (inl (xs, w)) = inl (b.progress.mode, xs, record { begun = b; begins = a; mode = refl; walk = w })
@@ -187,7 +182,7 @@ pub recorded_possible : RecordedPossible
 recorded_possible =
     record {
       reading_a_number = λ bs at. (
-        answer_of (number (drop at bs)),
+        (number (drop at bs)),
         record { lifetimes = ([], tt); args = (holds bs, (at, tt)); exit = (holds bs, (at, tt)); of_bytes = refl; of_place = refl; post = refl },
       );
       writing_a_number = λ n. (held (written n), record { lifetimes = tt; exit = (n, tt); post = refl });

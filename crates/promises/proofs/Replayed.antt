@@ -1,8 +1,8 @@
 -- Replays: the statements of specs/Recorded.antt on replays. Each run of keys between spaces is accepted, so what typing, showing and committing give of it is its line; and the summary is a sum over the words.
+use Rattle.std.specs.Prelude.{Option, Some, None, Result, Ok}
 use mathlib.Core.Path.{◌≡◌, refl, sym, ap, subst, ◌∙◌}
 use mathlib.Core.Bool.{Bool, true, false}
 use mathlib.Core.List.{List, [], ◌∷◌, ◌++◌, append_assoc, append-nil}
-use mathlib.Core.Option.{Option, none, some}
 use Prim.Native.Nat.{ℕ, suc, ◌+◌, ◌≤◌}
 use native.Mathlib.Omega.{arith}
 use borrow.Author.Tests.{eqb-false}
@@ -20,8 +20,6 @@ use Rattle.rules.specs.declared.Refusal.{Refusal}
 use Rattle.rules.specs.declared.Decision.{Decision}
 use Rattle.rules.specs.declared.Decision.TheVariants.{Keep, Restore}
 use Rattle.rules.specs.declared.TypeAll.{TypeAll}
-use Rattle.rules.specs.declared.WriteAnswer.{WriteAnswer}
-use Rattle.rules.specs.declared.CommitAnswer.TheVariants.{Granted}
 use Rattle.rules.proofs.StaysInRange.{read_front}
 use Rattle.rules.proofs.NotRefused.{typed_in_range, typed_word}
 use Rattle.rules.proofs.TextFits.{text_fits}
@@ -53,13 +51,13 @@ keys_behind z [] = sym (append-nil z.keys)
 keys_behind z (k ∷ ks) = keys_behind (type z k) ks ∙ append_assoc z.keys (k ∷ []) ks
 
 -- commit of the shown text hands back what the decision says
-when_granted : (m : ℕ) (ks text : List ℕ) → commit_answer m ks text ≡ Granted → commit m ks text ≡ handed_back (decision (typed m ks)) text ks
+when_granted : (m : ℕ) (ks text : List ℕ) → commit_answer m ks text ≡ (Ok tt) → commit m ks text ≡ handed_back (decision (typed m ks)) text ks
 unfolding commit_answer commit
 when_granted m ks text = go (refusal (commit_call m ks text))
   where
-    go : (o : Option Refusal) → granted_or o ≡ Granted → commit_or o m ks text ≡ handed_back (decision (typed m ks)) text ks
-    go none e = refl
-    go (some r) e = let z : ◌≡◌ {A = ℕ} 0 1 = cc in absurd (omega arith)
+    go : (o : Option Refusal) → granted_or o ≡ (Ok tt) → commit_or o m ks text ≡ handed_back (decision (typed m ks)) text ks
+    go None e = refl
+    go (Some r) e = let z : ◌≡◌ {A = ℕ} 0 1 = cc in absurd (omega arith)
 
 -- a word: whatever typing its keys, showing it and committing the text gives is its line
 module _ (m : ℕ) (ks : List ℕ) (ok : AcceptedKeys m ks) where
@@ -75,7 +73,7 @@ module _ (m : ℕ) (ks : List ℕ) (ok : AcceptedKeys m ks) where
   of_its_text =
       when_granted m ks its_text (shown_is_granted m ks ok.mode ok.few ok.keys) ∙ ap (handed_back (decision (typed m ks)) its_text) (sym (keys_behind (word_of (new_word m)) ks))
 
-  its_line : {t : TypeAll} {before after part : List ℕ} {a : WriteAnswer} {n : ℕ} → TypeAllows m ks t → most_bytes ≤ length before → ShowAllows t.word before a after → write_says a ≡ answered (n ∷ [])
+  its_line : {t : TypeAll} {before after part : List ℕ} {a : Result ℕ Refusal} {n : ℕ} → TypeAllows m ks t → most_bytes ≤ length before → ShowAllows t.word before a after → write_says a ≡ answered (n ∷ [])
       → CommitAllows m ks (take n after) part → (text : List ℕ) → part ++ (newline ∷ text) ≡ committed_line (typed m ks) ++ text
   its_line {t = t} {before = before} {n = n} ty room sh e c text =
       let written = (after_the_list m ks t ok ty).1.text (omega (arith, room, text_long)) sh in
@@ -240,7 +238,7 @@ summary_adds_up s m xs before after r n d a e =
     let w = of_its_words s m xs d before in
     let all = summary (of_words m (words_from [] xs)) (milliseconds xs) in
     let wrote = sym (its_answer a _ w) ∙ e in
-    let is : r.summary ≡ all = its_summary a _ w ∙ ap (λ (v : WriteAnswer). summary_if v all) wrote in
+    let is : r.summary ≡ all = its_summary a _ w ∙ ap (λ (v : Result ℕ Refusal). summary_if v all) wrote in
     subst (AddsUp xs) (sym is) (record {
       words = each_word m (words_from [] xs);
       kept_or_restored = kept_or_restored m (words_from [] xs);

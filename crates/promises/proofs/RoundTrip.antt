@@ -1,4 +1,5 @@
 -- Demand 2, the other way: the three statements of specs/RoundTrip.antt, by the laws on each valid syllable and the contracts.
+use Rattle.std.specs.Prelude.{Result, Ok}
 use mathlib.Core.Path.{◌≡◌, sym, ap, subst, ◌∙◌}
 use mathlib.Core.List.{List, [], ◌∷◌}
 use Prim.Native.Nat.{ℕ}
@@ -7,8 +8,6 @@ use Rattle.rules.specs.CodePoints.{shown}
 use Rattle.rules.specs.Speller.{read, standard_keys}
 use Rattle.rules.specs.WhatComesBack.{keys_of, Written}
 use Rattle.rules.specs.AnswersInNumbers.{answered, write_says}
-use Rattle.rules.specs.declared.WriteAnswer.{WriteAnswer}
-use Rattle.rules.specs.declared.WriteAnswer.TheVariants.{Wrote}
 use Rattle.rules.proofs.StaysInRange.{read_front}
 use Rattle.rules.specs.Syllables.{open_word, ShownBySyllable}
 use Rattle.forms.proofs.StandardList.{standard_list, one_list}
@@ -20,6 +19,7 @@ use Rattle.promises.specs.RoundTrip.{SpelledBack, OneList, OnlySyllables}
 use Rattle.promises.proofs.FromNumbers.{wrote_as}
 use Rattle.promises.proofs.AsDefined.{spelled_answer, spelled_output}
 use Rattle.promises.proofs.EachSyllable.{typed_gives}
+use Rattle.rules.specs.declared.Refusal.{Refusal}
 
 pub spelled_back : SpelledBack
 spelled_back m mode w t s before after r room a =
@@ -33,22 +33,22 @@ spelled_back m mode w t s before after r room a =
     }
 
 -- a result that says so many keys is that they were written
-wrote : {m : ℕ} {text before after : List ℕ} {r : WriteAnswer} {n : ℕ} → SpellAllows m text before r after → write_says r ≡ answered (n ∷ []) → SpellAllows m text before (Wrote n) after
-wrote {m} {text} {before} {after} {r} {n} a e = subst (λ (x : WriteAnswer). SpellAllows m text before x after) (wrote_as r n e) a
+wrote : {m : ℕ} {text before after : List ℕ} {r : Result ℕ Refusal} {n : ℕ} → SpellAllows m text before r after → write_says r ≡ answered (n ∷ []) → SpellAllows m text before (Ok n) after
+wrote {m} {text} {before} {after} {r} {n} a e = subst (λ (x : Result ℕ Refusal). SpellAllows m text before x after) (wrote_as r n e) a
 
-of_syllable : {m : ℕ} {text before after : List ℕ} {n : ℕ} → SpellAllows m text before (Wrote n) after → ShownBySyllable text
+of_syllable : {m : ℕ} {text before after : List ℕ} {n : ℕ} → SpellAllows m text before (Ok n) after → ShownBySyllable text
 of_syllable {m} {text} {before} a = spelled_shown m text before (sym (spelled_answer a))
 
 pub only_syllables : OnlySyllables
 only_syllables m text before after r n a e = of_syllable (wrote a e)
 
 -- what was written for the text of a syllable is its list
-list_written : (m : ℕ) (text before after : List ℕ) (n : ℕ) → (s : ShownBySyllable text) → Accepts m text before → SpellAllows m text before (Wrote n) after →
+list_written : (m : ℕ) (text before after : List ℕ) (n : ℕ) → (s : ShownBySyllable text) → Accepts m text before → SpellAllows m text before (Ok n) after →
     take n after ≡ standard_keys m s.letters s.tone
 list_written m text before after n s given a =
     let ks = keys_of m (read text) in
     let e = accepts_written m text before given in
-    let f : Wrote n ≡ Wrote (length ks) = spelled_answer a ∙ ap (λ (x : Written). x.answer) e in
+    let f : Ok n ≡ Ok (length ks) = spelled_answer a ∙ ap (λ (x : Written). x.answer) e in
     let l : length ks ≡ n = cc in
     ap (take n) (spelled_output a ∙ ap (λ (x : Written). x.output) e) ∙ read_front ks before n l ∙
     ap (λ (x : List ℕ). keys_of m (read x)) s.as_shown ∙ (round_trip m given.mode s.letters s.tone s.syllable).keys

@@ -1,6 +1,5 @@
 -- Demand 1 for the calls of the box, of whatever their contracts allow: the number returned, the value and the lent bytes. How a record lies in 169 bytes is said in layout/specs/Places.antt, how the values of an answer are one number in felcantuzza/specs/Calls.antt.
-use Rattle.std.specs.Prelude.{◌≡◌, Bool, true, not, List, [], ◌∷◌, ℕ, T, length}
-use Rattle.std.proofs.Math.Option.{none, some}
+use Rattle.std.specs.Prelude.{◌≡◌, Bool, true, not, List, [], ◌∷◌, ℕ, T, length, Some, None}
 use contract.Lifetimes.{Lfts}
 use denote.Triple.Entry.{Args}
 use denote.Triple.Clauses.{AtExit}
@@ -16,7 +15,7 @@ use Rattle.rules.specs.WhatComesBack.{start_call, step_call, typed, show_call, w
 use Rattle.rules.specs.AnswersInNumbers.{outcome_numbers, place_numbers, decision_number}
 use Rattle.rules.specs.declared.Word.{Word}
 use Rattle.rules.specs.declared.Refusal.{Refusal}
-use Rattle.layout.specs.Places.{as_bytes, as_record, is_long}
+use Rattle.layout.specs.Places.{as_bytes, is_long, is_record, held}
 use Rattle.felcantuzza.specs.Calls.{in_one, placed}
 use Rattle.felcantuzza.specs.contracts.fz_start as fz-start
 use Rattle.felcantuzza.proofs.fz_start.Reads as fz-start-reads
@@ -132,22 +131,15 @@ pub record OnBytes {R : Type 0} (is_record : Bool) (c : Call) (came_back answer 
   pub answers : T is_record → NoneHolds (table c) → came_back ≡ answer
   pub refuses : T is_record → (x : Refusal) → FirstOf (table c) x → came_back ≡ refused x
 
--- the word that lent bytes hold, where they are a record
-abbrev pub held : List ℕ → Word
-held lent = (as_record lent).word
-
-abbrev pub is_record : List ℕ → Bool
-is_record lent = (as_record lent).is_record
-
 -- a key typed and the word shown, as one call: a record, a key, and an output for the text after it
 abbrev pub press_call : Word → ℕ → List ℕ → Call
 press_call w k out =
     record {
-      record? = some w;
-      mode? = none;
-      keys? = some (record { mode = w.mode; already = w.typed; bytes = k ∷ [] });
-      text? = none;
-      room? = some (record { needed = length (shown (type (word_of w) k).state); there = length out });
+      record? = Some w;
+      mode? = None;
+      keys? = Some (record { mode = w.mode; already = w.typed; bytes = k ∷ [] });
+      text? = None;
+      room? = Some (record { needed = length (shown (type (word_of w) k).state); there = length out });
     }
 
 -- Each call returns 0 and its value, or the refusal's number and value; after a refusal every lent byte is as it was.

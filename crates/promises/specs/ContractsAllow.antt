@@ -1,18 +1,12 @@
 -- What the contract of each entry allows: of these arguments this result, and of a lent output these bytes before and after.
-use Rattle.std.specs.Prelude.{◌≡◌, List, ℕ}
+use Rattle.std.specs.Prelude.{◌≡◌, List, ℕ, Option, Result, ⊤}
 use contract.Lifetimes.{Lfts}
 use denote.Triple.Entry.{Args, Res}
 use denote.Triple.Clauses.{AtExit}
 use Rattle.rules.specs.declared.Word.{Word}
 use Rattle.rules.specs.declared.Start.{Start}
 use Rattle.rules.specs.declared.Step.{Step}
-use Rattle.rules.specs.declared.StepAnswer.{StepAnswer}
 use Rattle.rules.specs.declared.TypeAll.{TypeAll}
-use Rattle.rules.specs.declared.WriteAnswer.{WriteAnswer}
-use Rattle.rules.specs.declared.PlaceAnswer.{PlaceAnswer}
-use Rattle.rules.specs.declared.VerdictAnswer.{VerdictAnswer}
-use Rattle.rules.specs.declared.DecisionAnswer.{DecisionAnswer}
-use Rattle.rules.specs.declared.CommitAnswer.{CommitAnswer}
 use Rattle.lines.specs.declared.Program.{Program}
 use Rattle.session.specs.declared.Session.{Session}
 use Rattle.step.specs.contracts.step as step
@@ -37,8 +31,11 @@ use Rattle.speller.specs.contracts.spell as spell
 use Rattle.speller.proofs.spell.Reads as spell-reads
 use Rattle.lines.specs.contracts.answer_line as answer-line
 use Rattle.lines.proofs.answer_line.Reads as answer-line-reads
-use Rattle.session.specs.contracts.type_key as type-key
+use Rattle.session.specs.contracts.Session.type_key as type-key
 use Rattle.session.proofs.One.{KeyPost}
+use Rattle.rules.specs.declared.Refusal.{Refusal}
+use Rattle.rules.specs.declared.Outcome.{Outcome}
+use Rattle.rules.specs.declared.Decision.{Decision}
 
 -- start: a mode
 pub record StartAllows (m : ℕ) (r : Start) : Type 0 where
@@ -62,7 +59,7 @@ pub record TypeAllows (m : ℕ) (ks : List ℕ) (r : TypeAll) : Type 0 where
   pub post : type-all-reads.Post lifetimes args r exit
 
 -- show: a word, and the output before and after
-pub record ShowAllows (w : Word) (before : List ℕ) (r : WriteAnswer) (after : List ℕ) : Type 0 where
+pub record ShowAllows (w : Word) (before : List ℕ) (r : Result ℕ Refusal) (after : List ℕ) : Type 0 where
   pub lifetimes : Lfts 1
   pub args : Args show.signature lifetimes
   pub exit : AtExit show.ended lifetimes
@@ -72,17 +69,17 @@ pub record ShowAllows (w : Word) (before : List ℕ) (r : WriteAnswer) (after : 
   pub post : show-reads.Post lifetimes args r exit
 
 -- the tone's place, the verdict and the decision: a word
-pub record PlaceAllows (w : Word) (r : PlaceAnswer) : Type 0 where
+pub record PlaceAllows (w : Word) (r : Result (Option ℕ) Refusal) : Type 0 where
   pub lifetimes : Lfts 0
   pub exit : AtExit place.ended lifetimes
   pub post : place-reads.Post lifetimes (w, tt) r exit
 
-pub record VerdictAllows (w : Word) (r : VerdictAnswer) : Type 0 where
+pub record VerdictAllows (w : Word) (r : Result ℕ Refusal) : Type 0 where
   pub lifetimes : Lfts 0
   pub exit : AtExit verdict.ended lifetimes
   pub post : verdict-reads.Post lifetimes (w, tt) r exit
 
-pub record DecisionAllows (w : Word) (r : DecisionAnswer) : Type 0 where
+pub record DecisionAllows (w : Word) (r : Result Decision Refusal) : Type 0 where
   pub lifetimes : Lfts 0
   pub exit : AtExit decision.ended lifetimes
   pub post : decision-reads.Post lifetimes (w, tt) r exit
@@ -99,7 +96,7 @@ pub record CommitAllows (m : ℕ) (ks text part : List ℕ) : Type 0 where
   pub part_is : result.now ≡ part
   pub post : commit-reads.Post lifetimes args result exit
 
-pub record QuestionAllows (m : ℕ) (ks text : List ℕ) (r : CommitAnswer) : Type 0 where
+pub record QuestionAllows (m : ℕ) (ks text : List ℕ) (r : Result ⊤ Refusal) : Type 0 where
   pub lifetimes : Lfts 2
   pub args : Args answer.signature lifetimes
   pub exit : AtExit answer.ended lifetimes
@@ -109,7 +106,7 @@ pub record QuestionAllows (m : ℕ) (ks text : List ℕ) (r : CommitAnswer) : Ty
   pub post : answer-reads.Post lifetimes args r exit
 
 -- speller: a mode, a text, and the output before and after
-pub record SpellAllows (m : ℕ) (text : List ℕ) (before : List ℕ) (r : WriteAnswer) (after : List ℕ) : Type 0 where
+pub record SpellAllows (m : ℕ) (text : List ℕ) (before : List ℕ) (r : Result ℕ Refusal) (after : List ℕ) : Type 0 where
   pub lifetimes : Lfts 2
   pub args : Args spell.signature lifetimes
   pub exit : AtExit spell.ended lifetimes
@@ -120,7 +117,7 @@ pub record SpellAllows (m : ℕ) (text : List ℕ) (before : List ℕ) (r : Writ
   pub post : spell-reads.Post lifetimes args r exit
 
 -- a line of a program: the line, and the output before and after
-pub record LineAllows (p : Program) (line before : List ℕ) (r : WriteAnswer) (after : List ℕ) : Type 0 where
+pub record LineAllows (p : Program) (line before : List ℕ) (r : Result ℕ Refusal) (after : List ℕ) : Type 0 where
   pub lifetimes : Lfts 2
   pub args : Args answer-line.signature lifetimes
   pub exit : AtExit answer-line.ended lifetimes
@@ -131,7 +128,7 @@ pub record LineAllows (p : Program) (line before : List ℕ) (r : WriteAnswer) (
   pub post : answer-line-reads.Post lifetimes args r exit
 
 -- a key typed into a session: the session before and after. `KeyPost` is the text of its contract.
-pub record KeyAllows (before : Session) (k : ℕ) (r : StepAnswer) (after : Session) : Type 0 where
+pub record KeyAllows (before : Session) (k : ℕ) (r : Result Outcome Refusal) (after : Session) : Type 0 where
   pub lifetimes : Lfts 1
   pub args : Args type-key.signature lifetimes
   pub exit : AtExit type-key.ended lifetimes

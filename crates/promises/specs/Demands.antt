@@ -1,5 +1,5 @@
 -- The demands, as one statement over the entries' contracts: `Demands`. Each speaks of any results that the contracts allow (specs/ContractsAllow.antt), and of answers in document 01's numbers (rules/specs/AnswersInNumbers.antt).
-use Rattle.std.specs.Prelude.{◌≡◌, List, [], ◌∷◌, ◌++◌, ◌⊎◌, ℕ, length, drop}
+use Rattle.std.specs.Prelude.{◌≡◌, List, [], ◌∷◌, ◌++◌, ◌⊎◌, ℕ, length, drop, Option, Result, ⊤}
 use Rattle.rules.specs.Letters.{telex}
 use Rattle.rules.specs.TakingApart.{verdict}
 use Rattle.rules.specs.TonePlace.{tone_place}
@@ -17,13 +17,7 @@ use Rattle.rules.specs.declared.Word.{Word}
 use Rattle.rules.specs.declared.Refusal.{Refusal}
 use Rattle.rules.specs.declared.Start.{Start}
 use Rattle.rules.specs.declared.Step.{Step}
-use Rattle.rules.specs.declared.StepAnswer.{StepAnswer}
 use Rattle.rules.specs.declared.TypeAll.{TypeAll}
-use Rattle.rules.specs.declared.WriteAnswer.{WriteAnswer}
-use Rattle.rules.specs.declared.PlaceAnswer.{PlaceAnswer}
-use Rattle.rules.specs.declared.VerdictAnswer.{VerdictAnswer}
-use Rattle.rules.specs.declared.DecisionAnswer.{DecisionAnswer}
-use Rattle.rules.specs.declared.CommitAnswer.{CommitAnswer}
 use Rattle.rules.specs.declared.Decision.TheVariants.{Keep, Restore}
 use Rattle.lines.specs.declared.Program.{Program}
 use Rattle.lines.specs.declared.Program.TheVariants.{Drill, DrillWithKeys, Spell}
@@ -37,6 +31,8 @@ use Rattle.promises.specs.TwoOrders.{FirstHalf}
 use Rattle.promises.specs.EachSyllable.{SecondHalf}
 use Rattle.promises.specs.Committed.{ShownIsGranted, KeptOrKeys}
 use Rattle.promises.specs.Recorded.{NumbersBack, BytesBack, ReaderSteps, StandsStill, EveryRecording, WriteRead, ReadWrite, EveryDrillTyped, ReplayIsTyping, ReplayTooShort, ReplayRefuses, SummaryAddsUp, RecordedTight, RecordedPossible}
+use Rattle.rules.specs.declared.Outcome.{Outcome}
+use Rattle.rules.specs.declared.Decision.{Decision}
 
 -- Demand 1. Any bytes, any mode number, any record: an answer, or a numbered refusal. A refused call changes no buffer and no record, and returns exactly what the refusal table says.
 pub record Demand1 : Type 0 where
@@ -49,15 +45,15 @@ pub record Demand1 : Type 0 where
   pub typing : (m : ℕ) (ks : List ℕ) (r : TypeAll) → TypeAllows m ks r →
       Exactly {R = Says × Word} (type_call m ks) (type_says r.answer, r.word) (answered [], holding (new_word m) (typed m ks)) (λ x. (refusing x, new_word telex))
   -- the output after a refusal is as it was before
-  pub showing : (w : Word) (before after : List ℕ) (r : WriteAnswer) → ShowAllows w before r after →
+  pub showing : (w : Word) (before after : List ℕ) (r : Result ℕ Refusal) → ShowAllows w before r after →
       Exactly {R = Says × List ℕ} (show_call w before) (write_says r, after) (answered (length (shown (word_of w).state) ∷ []), at_front (shown (word_of w).state) before) (λ x. (refusing x, before))
-  pub spelling : (m : ℕ) (text before after : List ℕ) (r : WriteAnswer) → SpellAllows m text before r after →
+  pub spelling : (m : ℕ) (text before after : List ℕ) (r : Result ℕ Refusal) → SpellAllows m text before r after →
       Exactly {R = Says × List ℕ} (spell_call m text before) (write_says r, after) (answered (length (keys_of m (read text)) ∷ []), at_front (keys_of m (read text)) before) (λ x. (refusing x, before))
-  pub placing : (w : Word) (r : PlaceAnswer) → PlaceAllows w r → Exactly (word_call w) (place_says r) (answered (place_numbers (tone_place (word_of w).state.letters (word_of w).state.tone))) refusing
-  pub judging : (w : Word) (r : VerdictAnswer) → VerdictAllows w r → Exactly (word_call w) (verdict_says r) (answered (verdict (word_of w).state.letters (word_of w).state.tone ∷ [])) refusing
-  pub deciding : (w : Word) (r : DecisionAnswer) → DecisionAllows w r → Exactly (word_call w) (decision_says r) (answered (decision_number (decision (word_of w)) ∷ [])) refusing
+  pub placing : (w : Word) (r : Result (Option ℕ) Refusal) → PlaceAllows w r → Exactly (word_call w) (place_says r) (answered (place_numbers (tone_place (word_of w).state.letters (word_of w).state.tone))) refusing
+  pub judging : (w : Word) (r : Result ℕ Refusal) → VerdictAllows w r → Exactly (word_call w) (verdict_says r) (answered (verdict (word_of w).state.letters (word_of w).state.tone ∷ [])) refusing
+  pub deciding : (w : Word) (r : Result Decision Refusal) → DecisionAllows w r → Exactly (word_call w) (decision_says r) (answered (decision_number (decision (word_of w)) ∷ [])) refusing
   -- commit hands back the text or the keys themselves, and where it is refused an empty part of the keys; its question gives the number
-  pub asking : (m : ℕ) (ks text : List ℕ) (r : CommitAnswer) → QuestionAllows m ks text r → Exactly (commit_call m ks text) (commit_says r) (answered []) refusing
+  pub asking : (m : ℕ) (ks text : List ℕ) (r : Result ⊤ Refusal) → QuestionAllows m ks text r → Exactly (commit_call m ks text) (commit_says r) (answered []) refusing
   pub keeping : (m : ℕ) (ks text part : List ℕ) (a : CommitAllows m ks text part) → NoneHolds (table (commit_call m ks text)) → decision (typed m ks) ≡ Keep → (part ≡ text) × (a.result.ref_ptr ≡ a.args.1.1.0.ref_ptr)
   pub restoring : (m : ℕ) (ks text part : List ℕ) (a : CommitAllows m ks text part) → NoneHolds (table (commit_call m ks text)) → decision (typed m ks) ≡ Restore → (part ≡ ks) × (a.result.ref_ptr ≡ a.args.1.0.ref_ptr)
   pub not_committing : (m : ℕ) (ks text part : List ℕ) (x : Refusal) (a : CommitAllows m ks text part) → FirstOf (table (commit_call m ks text)) x → (part ≡ []) × (a.result.ref_ptr ≡ a.args.1.0.ref_ptr)
@@ -68,14 +64,14 @@ pub record Demand1 : Type 0 where
   pub drill_with_keys_refuses : (line : List ℕ) (x : Refusal) → FirstOf (table (type_call (mode_of line) (drop 2 line))) x → answer_line_with_keys line ≡ refused_line x
   pub spell_answers : (line : List ℕ) → NoneHolds (table (text_call (mode_of line) (drop 2 line))) → spell_line line ≡ keys_of (mode_of line) (read (drop 2 line)) ++ (newline ∷ [])
   pub spell_refuses : (line : List ℕ) (x : Refusal) → FirstOf (table (text_call (mode_of line) (drop 2 line))) x → spell_line line ≡ refused_line x
-  pub drilling : (line before after : List ℕ) (r : WriteAnswer) → LineAllows Drill line before r after →
+  pub drilling : (line before after : List ℕ) (r : Result ℕ Refusal) → LineAllows Drill line before r after →
       Exactly {R = Says × List ℕ} (room_call (answer_line line) before) (write_says r, after) (answered (length (answer_line line) ∷ []), at_front (answer_line line) before) (λ x. (refusing x, before))
-  pub drilling_with_keys : (line before after : List ℕ) (r : WriteAnswer) → LineAllows DrillWithKeys line before r after →
+  pub drilling_with_keys : (line before after : List ℕ) (r : Result ℕ Refusal) → LineAllows DrillWithKeys line before r after →
       Exactly {R = Says × List ℕ} (room_call (answer_line_with_keys line) before) (write_says r, after) (answered (length (answer_line_with_keys line) ∷ []), at_front (answer_line_with_keys line) before) (λ x. (refusing x, before))
-  pub spelling_lines : (line before after : List ℕ) (r : WriteAnswer) → LineAllows Spell line before r after →
+  pub spelling_lines : (line before after : List ℕ) (r : Result ℕ Refusal) → LineAllows Spell line before r after →
       Exactly {R = Says × List ℕ} (room_call (spell_line line) before) (write_says r, after) (answered (length (spell_line line) ∷ []), at_front (spell_line line) before) (λ x. (refusing x, before))
   -- the session after a refused key is as it was before
-  pub in_session : (before after : Session) (k : ℕ) (r : StepAnswer) → KeyAllows before k r after →
+  pub in_session : (before after : Session) (k : ℕ) (r : Result Outcome Refusal) → KeyAllows before k r after →
       Exactly {R = Says × Session} (step_call before.word k) (step_says r, after) (answered (outcome_numbers (outcome_of (key_does (word_of before.word) k))), record { word = holding before.word (type (word_of before.word) k) }) (λ x. (refusing x, before))
   -- and the calls of the box
   pub in_the_box : BoxAnswers
@@ -105,15 +101,15 @@ pub record Tight : Type 0 where
   pub starting : (m : ℕ) (r r' : Start) → StartAllows m r → StartAllows m r' → r ≡ r'
   pub stepping : (w : Word) (k : ℕ) (r r' : Step) → StepAllows w k r → StepAllows w k r' → r ≡ r'
   pub typing : (m : ℕ) (ks : List ℕ) (r r' : TypeAll) → TypeAllows m ks r → TypeAllows m ks r' → r ≡ r'
-  pub showing : (w : Word) (before after after' : List ℕ) (r r' : WriteAnswer) → ShowAllows w before r after → ShowAllows w before r' after' → (r ≡ r') × (after ≡ after')
-  pub spelling : (m : ℕ) (text before after after' : List ℕ) (r r' : WriteAnswer) → SpellAllows m text before r after → SpellAllows m text before r' after' → (r ≡ r') × (after ≡ after')
-  pub placing : (w : Word) (r r' : PlaceAnswer) → PlaceAllows w r → PlaceAllows w r' → r ≡ r'
-  pub judging : (w : Word) (r r' : VerdictAnswer) → VerdictAllows w r → VerdictAllows w r' → r ≡ r'
-  pub deciding : (w : Word) (r r' : DecisionAnswer) → DecisionAllows w r → DecisionAllows w r' → r ≡ r'
-  pub asking : (m : ℕ) (ks text : List ℕ) (r r' : CommitAnswer) → QuestionAllows m ks text r → QuestionAllows m ks text r' → r ≡ r'
+  pub showing : (w : Word) (before after after' : List ℕ) (r r' : Result ℕ Refusal) → ShowAllows w before r after → ShowAllows w before r' after' → (r ≡ r') × (after ≡ after')
+  pub spelling : (m : ℕ) (text before after after' : List ℕ) (r r' : Result ℕ Refusal) → SpellAllows m text before r after → SpellAllows m text before r' after' → (r ≡ r') × (after ≡ after')
+  pub placing : (w : Word) (r r' : Result (Option ℕ) Refusal) → PlaceAllows w r → PlaceAllows w r' → r ≡ r'
+  pub judging : (w : Word) (r r' : Result ℕ Refusal) → VerdictAllows w r → VerdictAllows w r' → r ≡ r'
+  pub deciding : (w : Word) (r r' : Result Decision Refusal) → DecisionAllows w r → DecisionAllows w r' → r ≡ r'
+  pub asking : (m : ℕ) (ks text : List ℕ) (r r' : Result ⊤ Refusal) → QuestionAllows m ks text r → QuestionAllows m ks text r' → r ≡ r'
   pub committing : (m : ℕ) (ks text part part' : List ℕ) → CommitAllows m ks text part → CommitAllows m ks text part' → part ≡ part'
-  pub answering_a_line : (p : Program) (line before after after' : List ℕ) (r r' : WriteAnswer) → LineAllows p line before r after → LineAllows p line before r' after' → (r ≡ r') × (after ≡ after')
-  pub in_session : (before after after' : Session) (k : ℕ) (r r' : StepAnswer) → KeyAllows before k r after → KeyAllows before k r' after' → (r ≡ r') × (after ≡ after')
+  pub answering_a_line : (p : Program) (line before after after' : List ℕ) (r r' : Result ℕ Refusal) → LineAllows p line before r after → LineAllows p line before r' after' → (r ≡ r') × (after ≡ after')
+  pub in_session : (before after after' : Session) (k : ℕ) (r r' : Result Outcome Refusal) → KeyAllows before k r after → KeyAllows before k r' after' → (r ≡ r') × (after ≡ after')
   pub in_the_box : BoxTight
 
 -- And none is empty: at any arguments the contract allows some result.
@@ -121,15 +117,15 @@ pub record Possible : Type 0 where
   pub starting : (m : ℕ) → (r : Start) × StartAllows m r
   pub stepping : (w : Word) (k : ℕ) → (r : Step) × StepAllows w k r
   pub typing : (m : ℕ) (ks : List ℕ) → (r : TypeAll) × TypeAllows m ks r
-  pub showing : (w : Word) (before : List ℕ) → (r : WriteAnswer) × (after : List ℕ) × ShowAllows w before r after
-  pub spelling : (m : ℕ) (text before : List ℕ) → (r : WriteAnswer) × (after : List ℕ) × SpellAllows m text before r after
-  pub placing : (w : Word) → (r : PlaceAnswer) × PlaceAllows w r
-  pub judging : (w : Word) → (r : VerdictAnswer) × VerdictAllows w r
-  pub deciding : (w : Word) → (r : DecisionAnswer) × DecisionAllows w r
-  pub asking : (m : ℕ) (ks text : List ℕ) → (r : CommitAnswer) × QuestionAllows m ks text r
+  pub showing : (w : Word) (before : List ℕ) → (r : Result ℕ Refusal) × (after : List ℕ) × ShowAllows w before r after
+  pub spelling : (m : ℕ) (text before : List ℕ) → (r : Result ℕ Refusal) × (after : List ℕ) × SpellAllows m text before r after
+  pub placing : (w : Word) → (r : Result (Option ℕ) Refusal) × PlaceAllows w r
+  pub judging : (w : Word) → (r : Result ℕ Refusal) × VerdictAllows w r
+  pub deciding : (w : Word) → (r : Result Decision Refusal) × DecisionAllows w r
+  pub asking : (m : ℕ) (ks text : List ℕ) → (r : Result ⊤ Refusal) × QuestionAllows m ks text r
   pub committing : (m : ℕ) (ks text : List ℕ) → (part : List ℕ) × CommitAllows m ks text part
-  pub answering_a_line : (p : Program) (line before : List ℕ) → (r : WriteAnswer) × (after : List ℕ) × LineAllows p line before r after
-  pub in_session : (before : Session) (k : ℕ) → (r : StepAnswer) × (after : Session) × KeyAllows before k r after
+  pub answering_a_line : (p : Program) (line before : List ℕ) → (r : Result ℕ Refusal) × (after : List ℕ) × LineAllows p line before r after
+  pub in_session : (before : Session) (k : ℕ) → (r : Result Outcome Refusal) × (after : Session) × KeyAllows before k r after
   pub in_the_box : BoxPossible
 
 -- Recorded drills, of request W-204. A recording is read, or refused with the place; what is written is read and what is read is written, both ways the same.

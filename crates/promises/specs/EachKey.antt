@@ -1,5 +1,5 @@
 -- Demand 2, after each key, of whatever the contracts allow: the letters, tone, tone place, verdict and decision are those of the rules; and typing a list all at once gives the word that its keys give one by one.
-use Rattle.std.specs.Prelude.{◌≡◌, List, [], ◌∷◌, ◌++◌, ℕ, ◌+◌, ◌≤◌, T, length}
+use Rattle.std.specs.Prelude.{◌≡◌, List, [], ◌∷◌, ◌++◌, ℕ, ◌+◌, ◌≤◌, T, length, Option, Result}
 use Rattle.rules.specs.TheWord.{most_keys, new_word, word_of, at_front, holding, outcome_of}
 use Rattle.rules.specs.KeyRoles.{is_key, key_does}
 use Rattle.rules.specs.TakingApart.{verdict}
@@ -14,11 +14,9 @@ use Rattle.rules.specs.declared.Word.{Word}
 use Rattle.rules.specs.declared.Start.{Start}
 use Rattle.rules.specs.declared.Step.{Step}
 use Rattle.rules.specs.declared.TypeAll.{TypeAll}
-use Rattle.rules.specs.declared.WriteAnswer.{WriteAnswer}
-use Rattle.rules.specs.declared.PlaceAnswer.{PlaceAnswer}
-use Rattle.rules.specs.declared.VerdictAnswer.{VerdictAnswer}
-use Rattle.rules.specs.declared.DecisionAnswer.{DecisionAnswer}
 use Rattle.promises.specs.ContractsAllow.{StartAllows, StepAllows, TypeAllows, ShowAllows, PlaceAllows, VerdictAllows, DecisionAllows}
+use Rattle.rules.specs.declared.Refusal.{Refusal}
+use Rattle.rules.specs.declared.Decision.{Decision}
 
 -- a word, and what steps by these keys, one after the other, make of it
 pub data Stepped : Word → List ℕ → Word → Type 0 where
@@ -43,11 +41,11 @@ pub record AsRuled (m : ℕ) (ks : List ℕ) (v : Word) : Type 0 where
   -- the places of keys tell which key made which letter
   pub places : PlacesTold v
   -- the text, into an output with room for it; the tone's place, the verdict and the decision
-  pub text : {before after : List ℕ} {r : WriteAnswer} → length (shown (typed m ks).state) ≤ length before → ShowAllows v before r after →
+  pub text : {before after : List ℕ} {r : Result ℕ Refusal} → length (shown (typed m ks).state) ≤ length before → ShowAllows v before r after →
       (write_says r ≡ answered (length (shown (typed m ks).state) ∷ [])) × (after ≡ at_front (shown (typed m ks).state) before)
-  pub place : {r : PlaceAnswer} → PlaceAllows v r → place_says r ≡ answered (place_numbers (tone_place (typed m ks).state.letters (typed m ks).state.tone))
-  pub judgement : {r : VerdictAnswer} → VerdictAllows v r → verdict_says r ≡ answered (verdict (typed m ks).state.letters (typed m ks).state.tone ∷ [])
-  pub keep_or_restore : {r : DecisionAnswer} → DecisionAllows v r → decision_says r ≡ answered (decision_number (decision (typed m ks)) ∷ [])
+  pub place : {r : Result (Option ℕ) Refusal} → PlaceAllows v r → place_says r ≡ answered (place_numbers (tone_place (typed m ks).state.letters (typed m ks).state.tone))
+  pub judgement : {r : Result ℕ Refusal} → VerdictAllows v r → verdict_says r ≡ answered (verdict (typed m ks).state.letters (typed m ks).state.tone ∷ [])
+  pub keep_or_restore : {r : Result Decision Refusal} → DecisionAllows v r → decision_says r ≡ answered (decision_number (decision (typed m ks)) ∷ [])
   -- a key more that is allowed, where there is room for it, is answered by what the rules say that it does
   pub next : {k : ℕ} {r : Step} → length ks + 1 ≤ most_keys → T (is_key m k) → StepAllows v k r → step_says r.answer ≡ answered (outcome_numbers (outcome_of (key_does (typed m ks) k)))
 

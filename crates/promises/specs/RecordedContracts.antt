@@ -1,14 +1,11 @@
 -- What the contract of each entry for recorded drills allows: of these arguments this result, and of a lent output or a lent reader how it is before and after.
-use Rattle.std.specs.Prelude.{◌≡◌, List, ℕ}
+use Rattle.std.specs.Prelude.{◌≡◌, List, ℕ, Option, Result}
 use contract.Lifetimes.{Lfts}
 use denote.Triple.Entry.{Args}
 use denote.Triple.Clauses.{AtExit}
-use Rattle.rules.specs.declared.WriteAnswer.{WriteAnswer}
-use Rattle.groups.specs.declared.NumberAnswer.{NumberAnswer}
 use Rattle.groups.specs.declared.Groups.{Groups}
 use Rattle.recording.specs.declared.Progress.{Progress}
 use Rattle.recording.specs.declared.Stepped.{Stepped}
-use Rattle.recording.specs.declared.BeginAnswer.{BeginAnswer}
 use Rattle.reader.specs.declared.Reader.{Reader}
 use Rattle.replay.specs.declared.ReplayAnswer.{ReplayAnswer}
 use Rattle.groups.specs.contracts.number_at as number_at
@@ -21,13 +18,16 @@ use Rattle.recording.specs.contracts.step_at as step-at
 use Rattle.recording.proofs.step_at.Reads as step-at-reads
 use Rattle.recording.specs.contracts.write as write
 use Rattle.recording.proofs.write.Reads as write-reads
-use Rattle.reader.specs.contracts.next_in as next-in
+use Rattle.reader.specs.contracts.Reader.next_in as next-in
 use Rattle.reader.proofs.One.{NextInPost}
 use Rattle.replay.specs.contracts.replay as replay
 use Rattle.replay.proofs.replay.Reads as replay-reads
+use Rattle.rules.specs.declared.Refusal.{Refusal}
+use Rattle.groups.specs.declared.Number.{Number}
+use Rattle.recording.specs.declared.Begun.{Begun}
 
 -- a number read: bytes, and a place in them
-pub record NumberAllows (bytes : List ℕ) (at : ℕ) (r : NumberAnswer) : Type 0 where
+pub record NumberAllows (bytes : List ℕ) (at : ℕ) (r : Option Number) : Type 0 where
   pub lifetimes : Lfts 1
   pub args : Args number_at.signature lifetimes
   pub exit : AtExit number_at.ended lifetimes
@@ -42,7 +42,7 @@ pub record WrittenAllows (n : ℕ) (g : Groups) : Type 0 where
   pub post : written-reads.Post lifetimes (n, tt) g exit
 
 -- the mode in front of a recording
-pub record BeginAllows (s : List ℕ) (r : BeginAnswer) : Type 0 where
+pub record BeginAllows (s : List ℕ) (r : Result Begun Refusal) : Type 0 where
   pub lifetimes : Lfts 1
   pub args : Args begin.signature lifetimes
   pub exit : AtExit begin.ended lifetimes
@@ -60,7 +60,7 @@ pub record PressAllows (s : List ℕ) (at : ℕ) (p : Progress) (t : Stepped) : 
   pub post : step-at-reads.Post lifetimes args t exit
 
 -- the writer: a mode, presses as numbers, and the output before and after
-pub record RecordAllows (m : ℕ) (presses before : List ℕ) (r : WriteAnswer) (after : List ℕ) : Type 0 where
+pub record RecordAllows (m : ℕ) (presses before : List ℕ) (r : Result ℕ Refusal) (after : List ℕ) : Type 0 where
   pub lifetimes : Lfts 2
   pub args : Args write.signature lifetimes
   pub exit : AtExit write.ended lifetimes

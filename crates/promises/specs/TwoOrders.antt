@@ -1,5 +1,5 @@
 -- Demand 3, first half, of whatever the contracts allow: an open word with room for two more keys, and two keys of different families that would each act alone, typed in both orders.
-use Rattle.std.specs.Prelude.{◌≡◌, Bool, true, false, not, List, [], ◌∷◌, ◌++◌, map, ℕ, ◌+◌, ◌≤◌, T, length, take}
+use Rattle.std.specs.Prelude.{◌≡◌, Bool, true, false, not, List, [], ◌∷◌, ◌++◌, map, ℕ, ◌+◌, ◌≤◌, T, length, take, Option, Result}
 use Rattle.rules.specs.TheWord.{most_keys, most_bytes, word_of, at_front}
 use Rattle.rules.specs.KeyRoles.{role}
 use Rattle.rules.specs.CodePoints.{shown}
@@ -12,11 +12,9 @@ use Rattle.rules.specs.declared.Role.TheVariants.{ToneRole, ShapeRole, StrokeRol
 use Rattle.rules.specs.declared.Act.{Act}
 use Rattle.rules.specs.declared.Outcome.TheVariants.{Acted}
 use Rattle.rules.specs.declared.Step.{Step}
-use Rattle.rules.specs.declared.WriteAnswer.{WriteAnswer}
-use Rattle.rules.specs.declared.PlaceAnswer.{PlaceAnswer}
-use Rattle.rules.specs.declared.VerdictAnswer.{VerdictAnswer}
-use Rattle.rules.specs.declared.DecisionAnswer.{DecisionAnswer}
 use Rattle.promises.specs.ContractsAllow.{StepAllows, ShowAllows, PlaceAllows, VerdictAllows, DecisionAllows}
+use Rattle.rules.specs.declared.Refusal.{Refusal}
+use Rattle.rules.specs.declared.Decision.{Decision}
 
 -- The families: tone with clear; vowel shape; stroke. A key without a role is of none.
 abbrev pub differ : Role → Role → Bool
@@ -66,13 +64,13 @@ pub record BothOrders (w : Word) (k m : ℕ) (a b : Act) (km mk : Step) : Type 0
   pub k_then_m : km.word.keys ≡ at_front (take w.typed w.keys ++ (k ∷ m ∷ [])) w.keys
   pub m_then_k : mk.word.keys ≡ at_front (take w.typed w.keys ++ (m ∷ k ∷ [])) w.keys
   -- the same text into any output, written where there is room for any text
-  pub text : {out after after' : List ℕ} {r r' : WriteAnswer} → ShowAllows km.word out r after → ShowAllows mk.word out r' after' → (write_says r ≡ write_says r') × (after ≡ after')
-  pub text_written : {out after : List ℕ} {r : WriteAnswer} → most_bytes ≤ length out → ShowAllows km.word out r after →
+  pub text : {out after after' : List ℕ} {r r' : Result ℕ Refusal} → ShowAllows km.word out r after → ShowAllows mk.word out r' after' → (write_says r ≡ write_says r') × (after ≡ after')
+  pub text_written : {out after : List ℕ} {r : Result ℕ Refusal} → most_bytes ≤ length out → ShowAllows km.word out r after →
       (write_says r ≡ answered (length (shown (word_of km.word).state) ∷ [])) × (after ≡ at_front (shown (word_of km.word).state) out)
   -- the same place, verdict and decision, and none of these is a refusal
-  pub place : {r r' : PlaceAnswer} → PlaceAllows km.word r → PlaceAllows mk.word r' → (ns : List ℕ) × (place_says r ≡ answered ns) × (place_says r' ≡ answered ns)
-  pub verdict : {r r' : VerdictAnswer} → VerdictAllows km.word r → VerdictAllows mk.word r' → (ns : List ℕ) × (verdict_says r ≡ answered ns) × (verdict_says r' ≡ answered ns)
-  pub decision : {r r' : DecisionAnswer} → DecisionAllows km.word r → DecisionAllows mk.word r' → (ns : List ℕ) × (decision_says r ≡ answered ns) × (decision_says r' ≡ answered ns)
+  pub place : {r r' : Result (Option ℕ) Refusal} → PlaceAllows km.word r → PlaceAllows mk.word r' → (ns : List ℕ) × (place_says r ≡ answered ns) × (place_says r' ≡ answered ns)
+  pub verdict : {r r' : Result ℕ Refusal} → VerdictAllows km.word r → VerdictAllows mk.word r' → (ns : List ℕ) × (verdict_says r ≡ answered ns) × (verdict_says r' ≡ answered ns)
+  pub decision : {r r' : Result Decision Refusal} → DecisionAllows km.word r → DecisionAllows mk.word r' → (ns : List ℕ) × (decision_says r ≡ answered ns) × (decision_says r' ≡ answered ns)
 
 -- Two keys whose roles in the word's mode are of different families; each of them, typed alone, acts. Then the promise holds of any results that the contracts allow.
 abbrev pub FirstHalf : Type 0

@@ -12,11 +12,11 @@ use denote.Triple.Clauses.{AtExit}
 use Rattle.recording.specs.Recordings.{begin as begin_of}
 use Rattle.reader.specs.Standing.{step_from, place_after}
 use Rattle.reader.specs.declared.Reader.{Reader}
-use Rattle.reader.specs.contracts.new as new
-use Rattle.reader.specs.contracts.begin as begin
-use Rattle.reader.specs.contracts.moved as moved
-use Rattle.reader.specs.contracts.next as next
-use Rattle.reader.specs.contracts.next_in as next-in
+use Rattle.reader.specs.contracts.Reader.new as new
+use Rattle.reader.specs.contracts.Reader.begin as begin
+use Rattle.reader.specs.contracts.Reader.moved as moved
+use Rattle.reader.specs.contracts.Reader.next as next
+use Rattle.reader.specs.contracts.Reader.next_in as next-in
 
 -- two readers with one recording and one place are one reader
 same : (d d' : Reader) → d.recording ≡ d'.recording → d.at ≡ d'.at → d ≡ d'

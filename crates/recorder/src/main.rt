@@ -3,11 +3,12 @@
 // What is wrong is said on standard error, and then nothing is written.
 #![tactic(auto)]
 
-ghost use Rattle.std.specs.Prelude.{◌≡◌, min};
+ghost use Rattle.std.specs.Prelude.{◌≤◌};
+ghost use Rattle.recorder.specs.declared.TheConstants.{MOST};
 
 use messages::{say, say_fault, say_refused};
 use recording::SPACE;
-use rules::{Word, WriteAnswer};
+use rules::Word;
 use std::io::{ErrorKind, Read};
 use std::process::ExitCode;
 
@@ -24,15 +25,7 @@ const ROOM: usize = 1 + 6 * MOST;
 // Milliseconds from here on are refused by the writer, however many there are.
 const TOO_LONG: u64 = 4294967296;
 
-// The exit status where nobody reads the output any more: a shell's for a program that SIGPIPE ended. The signal itself is
-// passed over before main begins, and the write fails.
-const UNREAD: u8 = 141;
-
-const NEWLINE: u8 = b'\n';
-
-const CARRIAGE_RETURN: u8 = b'\r';
-
-// How much of a line has been read, or what is wrong with it.
+// How much of a line has been read, or what is wrong with it. A `match` on it is the plainest: each stage takes a byte and the end of a line its own way.
 #[derive(Clone, Copy)]
 enum Stage {
     NoMode,
@@ -52,308 +45,188 @@ enum Fault {
     TooMany,
 }
 
-// The drill so far: its mode and how many keys; the line, its stage and its milliseconds; and whether a carriage return waits, which
-// is passed over where the line ends behind it.
-#[derive(Clone, Copy)]
+// The drill so far: its mode, its keys and the line of each; the line that is read, its stage and its milliseconds; and whether a
+// carriage return waits, which is passed over where the line ends behind it.
+// The keys and their lines are two arrays, since the writer takes the keys alone.
+#[derive(Drop)]
 struct Drill {
     mode: u8,
+    presses: [u64; MOST],
+    lines: [u64; MOST],
     count: usize,
     line: u64,
     stage: Stage,
     milliseconds: u64,
     returned: bool,
+    ghost in_room: { count ≤ MOST },
 }
 
-// What follows a read: more of the input, its end, or a failure.
-#[derive(Clone, Copy)]
-enum Next {
-    More,
-    Ended,
-    Failed,
-}
-
-#[derive(Clone, Copy)]
-struct Passed {
-    drill: Drill,
-    next: Next,
-}
-
-fn least(a: usize, b: usize) -> usize
-    ensures { result ≡ min a b }
-{
-    if a < b { a } else { b }
-}
-
-fn at_stage(d: Drill, stage: Stage) -> Drill {
-    Drill {
-        mode: d.mode,
-        count: d.count,
-        line: d.line,
-        stage: stage,
-        milliseconds: d.milliseconds,
-        returned: d.returned,
-    }
-}
-
-fn wrong(d: Drill, fault: Fault) -> Drill {
-    at_stage(d, Stage::Wrong(fault))
-}
-
-fn in_mode(d: Drill, mode: u8) -> Drill {
-    let mut next = at_stage(d, Stage::ModeRead);
-    next.mode = mode;
-    next
-}
-
-// The milliseconds with a digit more. From the writer's limit on they stay there.
-fn with_digit(milliseconds: u64, digit: u8) -> u64 {
-    if TOO_LONG <= milliseconds {
-        return TOO_LONG;
-    }
-    10 * milliseconds + digit as u64
-}
-
-fn timed(d: Drill, milliseconds: u64) -> Drill {
-    let mut next = at_stage(d, Stage::Time);
-    next.milliseconds = milliseconds;
-    next
-}
-
-fn digit(d: Drill, milliseconds: u64, b: u8) -> Drill {
-    if b < b'0' {
-        return wrong(d, Fault::NotATime);
-    }
-    if b'9' < b {
-        return wrong(d, Fault::NotATime);
-    }
-    timed(d, with_digit(milliseconds, b - b'0'))
-}
-
-// A key and its time as the writer takes them.
-fn press(milliseconds: u64, key: u8) -> u64 {
-    if TOO_LONG <= milliseconds {
-        return key as u64 + 256 * TOO_LONG;
-    }
-    key as u64 + 256 * milliseconds
-}
-
-// One key more, and the line that it stands in.
-fn pressed(
-    d: Drill,
-    key: u8,
-    stage: Stage,
-    presses: &mut [u64; MOST],
-    lines: &mut [u64; MOST],
-) -> Drill {
-    let n = d.count;
-    if MOST <= n {
-        return wrong(d, Fault::TooMany);
-    }
-    presses[n] = press(d.milliseconds, key);
-    lines[n] = d.line;
-    let mut next = at_stage(d, stage);
-    next.count = n + 1;
-    next
-}
-
-// A byte within a line.
-fn byte(d: Drill, b: u8, presses: &mut [u64; MOST], lines: &mut [u64; MOST]) -> Drill {
-    let stage = d.stage;
-    match stage {
-        Stage::NoMode => {
-            if b == b'T' {
-                return in_mode(d, Word::TELEX);
-            }
-            if b == b'V' {
-                return in_mode(d, Word::VNI);
-            }
-            wrong(d, Fault::NotAMode)
+impl Drill {
+    fn new() -> Drill {
+        Drill {
+            mode: Word::TELEX,
+            presses: [0; MOST],
+            lines: [0; MOST],
+            count: 0,
+            line: 1,
+            stage: Stage::NoMode,
+            milliseconds: 0,
+            returned: false,
         }
-        Stage::ModeRead => wrong(d, Fault::NotAMode),
-        Stage::LineStart => digit(d, 0, b),
-        Stage::Time => {
-            if b == SPACE {
-                return at_stage(d, Stage::TimeAndSpace);
+    }
+
+    fn is_wrong(&self) -> bool {
+        matches!(self.stage, Stage::Wrong(_))
+    }
+
+    fn begin(&mut self, mode: u8) {
+        self.mode = mode;
+        self.stage = Stage::ModeRead;
+    }
+
+    // The milliseconds with a digit more. From the writer's limit on it does not matter how many they are.
+    fn digit(&mut self, b: u8) {
+        match b {
+            b'0'..=b'9' => {
+                self.milliseconds = 10 * self.milliseconds.min(TOO_LONG) + (b - b'0') as u64;
+                self.stage = Stage::Time;
             }
-            digit(d, d.milliseconds, b)
+            _ => self.stage = Stage::Wrong(Fault::NotATime),
         }
-        Stage::TimeAndSpace => pressed(d, b, Stage::Keys, presses, lines),
-        Stage::Keys => pressed(d, b, Stage::Keys, presses, lines),
-        Stage::Wrong(_) => d,
+    }
+
+    // One key more, with its time as the writer takes them, and the line that it stands in.
+    fn press(&mut self, key: u8, stage: Stage) {
+        let n = self.count;
+        if n == MOST {
+            self.stage = Stage::Wrong(Fault::TooMany);
+            return;
+        }
+        self.presses[n] = key as u64 + 256 * self.milliseconds.min(TOO_LONG);
+        self.lines[n] = self.line;
+        self.count = n + 1;
+        self.stage = stage;
+    }
+
+    // A byte within a line.
+    fn byte(&mut self, b: u8) {
+        match self.stage {
+            Stage::NoMode => match b {
+                b'T' => self.begin(Word::TELEX),
+                b'V' => self.begin(Word::VNI),
+                _ => self.stage = Stage::Wrong(Fault::NotAMode),
+            },
+            Stage::ModeRead => self.stage = Stage::Wrong(Fault::NotAMode),
+            Stage::LineStart => {
+                self.milliseconds = 0;
+                self.digit(b);
+            }
+            Stage::Time if b == SPACE => self.stage = Stage::TimeAndSpace,
+            Stage::Time => self.digit(b),
+            Stage::TimeAndSpace | Stage::Keys => self.press(b, Stage::Keys),
+            Stage::Wrong(_) => {}
+        }
+    }
+
+    // A line that ended. Milliseconds alone are the time of a space.
+    fn end_line(&mut self) {
+        match self.stage {
+            Stage::NoMode | Stage::LineStart | Stage::Wrong(_) => {}
+            Stage::ModeRead | Stage::Keys => self.stage = Stage::LineStart,
+            Stage::Time => self.press(SPACE, Stage::LineStart),
+            Stage::TimeAndSpace => self.stage = Stage::Wrong(Fault::NoKeys),
+        }
+    }
+
+    // The line behind one that ended well. No input has so many lines that their number wraps.
+    fn newline(&mut self) {
+        self.end_line();
+        if !self.is_wrong() {
+            self.returned = false;
+            self.line = self.line.wrapping_add(1);
+        }
+    }
+
+    // A carriage return that did not end its line is a byte of the line.
+    fn feed_byte(&mut self, b: u8) {
+        if b == b'\n' {
+            return self.newline();
+        }
+        if self.returned {
+            self.returned = false;
+            self.byte(b'\r');
+        }
+        if b == b'\r' {
+            self.returned = true;
+        } else {
+            self.byte(b);
+        }
+    }
+
+    fn feed(&mut self, block: &[u8]) {
+        for &b in block {
+            self.feed_byte(b);
+        }
     }
 }
 
-// A line that ended. Milliseconds alone are the time of a space.
-fn ended(d: Drill, presses: &mut [u64; MOST], lines: &mut [u64; MOST]) -> Drill {
-    let stage = d.stage;
-    match stage {
-        Stage::NoMode => d,
-        Stage::ModeRead => at_stage(d, Stage::LineStart),
-        Stage::LineStart => d,
-        Stage::Time => pressed(d, SPACE, Stage::LineStart, presses, lines),
-        Stage::TimeAndSpace => wrong(d, Fault::NoKeys),
-        Stage::Keys => at_stage(d, Stage::LineStart),
-        Stage::Wrong(_) => d,
-    }
-}
-
-fn with_return(d: Drill, returned: bool) -> Drill {
-    let mut next = d;
-    next.returned = returned;
-    next
-}
-
-fn is_wrong(d: Drill) -> bool {
-    let stage = d.stage;
-    if let Stage::Wrong(_) = stage {
-        return true;
+// The input read, all of it or as far as nothing is wrong; false where it could not be.
+// Nothing says that it ends, so the loop counts its turns, up to a number that no run uses up.
+fn read_all(rt: &HostRuntime, drill: &mut Drill) -> bool {
+    let mut block = [0; BLOCK];
+    for _ in 0..u64::MAX {
+        let Ok(n) = rt.stdin().read(&mut block) else {
+            say(rt, b"record: cannot read\n");
+            return false;
+        };
+        if n == 0 {
+            drill.end_line();
+            return true;
+        }
+        drill.feed(&block[..n]);
+        if drill.is_wrong() {
+            return true;
+        }
     }
     false
 }
 
-// The line behind one that ended well. No input has so many lines that their number wraps.
-fn next_line(d: Drill) -> Drill {
-    if is_wrong(d) {
-        return d;
-    }
-    let mut next = with_return(d, false);
-    next.line = std::num::wrapping_add_u64(d.line, 1);
-    next
-}
-
-// A carriage return that did not end its line is a byte of the line.
-fn after_return(d: Drill, presses: &mut [u64; MOST], lines: &mut [u64; MOST]) -> Drill {
-    if !d.returned {
-        return d;
-    }
-    byte(with_return(d, false), CARRIAGE_RETURN, presses, lines)
-}
-
-fn feed_byte(d: Drill, b: u8, presses: &mut [u64; MOST], lines: &mut [u64; MOST]) -> Drill {
-    if b == NEWLINE {
-        return next_line(ended(d, presses, lines));
-    }
-    let behind = after_return(d, presses, lines);
-    if b == CARRIAGE_RETURN {
-        return with_return(behind, true);
-    }
-    byte(behind, b, presses, lines)
-}
-
-fn feed(d: Drill, block: &[u8], presses: &mut [u64; MOST], lines: &mut [u64; MOST]) -> Drill {
-    let mut drill = d;
-    let mut i = 0;
-    while i < block.len() {
-        drill = feed_byte(drill, block[i], presses, lines);
-        i += 1;
-    }
-    drill
-}
-
-// One read, and what it brought fed.
-fn pass(
-    rt: &HostRuntime,
-    d: Drill,
-    block: &mut [u8],
-    presses: &mut [u64; MOST],
-    lines: &mut [u64; MOST],
-) -> Passed {
-    let Ok(n) = rt.stdin().read(block) else {
-        say(rt, b"record: cannot read\n");
-        return Passed {
-            drill: d,
-            next: Next::Failed,
-        };
-    };
-    if n == 0 {
-        return Passed {
-            drill: ended(d, presses, lines),
-            next: Next::Ended,
-        };
-    }
-    let fed = feed(d, &block[..n], presses, lines);
-    let next = if is_wrong(fed) {
-        Next::Ended
-    } else {
-        Next::More
-    };
-    Passed {
-        drill: fed,
-        next: next,
-    }
-}
-
-// The whole input read. Nothing says that it ends, so the loop counts its turns, up to a number that no run uses up.
-fn read_all(rt: &HostRuntime, presses: &mut [u64; MOST], lines: &mut [u64; MOST]) -> Passed {
-    let mut block = [0; BLOCK];
-    let mut drill = Drill {
-        mode: Word::TELEX,
-        count: 0,
-        line: 1,
-        stage: Stage::NoMode,
-        milliseconds: 0,
-        returned: false,
-    };
-    for _ in 0..u64::MAX {
-        let read = pass(rt, drill, &mut block, presses, lines);
-        let next = read.next;
-        if let Next::More = next {
-            drill = read.drill;
-        } else {
-            return read;
-        }
-    }
-    Passed {
-        drill: drill,
-        next: Next::Failed,
-    }
-}
-
 // The recording, written; a failure where it could not be. Nothing is said of it where nobody reads any more.
-fn write(rt: &HostRuntime, d: Drill, presses: &[u64; MOST], lines: &[u64; MOST]) -> ExitCode {
-    let n = least(d.count, MOST);
-    let all = &presses[..];
+fn write(rt: &HostRuntime, drill: &Drill) -> ExitCode {
     let mut out = [0; ROOM];
-    let answer = recording::write(d.mode, &all[0..n], &mut out);
-    match answer {
-        WriteAnswer::Wrote(written) => {
-            let Err(e) = rt.stdout().write_all(&out[0..written]) else {
+    match recording::write(drill.mode, &drill.presses[..drill.count], &mut out) {
+        Ok(written) => {
+            let Err(e) = rt.stdout().write_all(&out[..written]) else {
                 return ExitCode::SUCCESS;
             };
-            if e.kind() == ErrorKind::BrokenPipe {
-                return ExitCode::from(UNREAD);
+            if e.kind() != ErrorKind::BrokenPipe {
+                say(rt, b"record: cannot write\n");
             }
-            say(rt, b"record: cannot write\n");
-            ExitCode::FAILURE
+            ending::status(e)
         }
-        WriteAnswer::Refused(r) => {
-            say_refused(rt, r, lines);
+        Err(r) => {
+            say_refused(rt, r, &drill.lines);
             ExitCode::SUCCESS
         }
     }
 }
 
-fn finish(rt: &HostRuntime, d: Drill, presses: &[u64; MOST], lines: &[u64; MOST]) -> ExitCode {
-    let stage = d.stage;
-    if let Stage::Wrong(fault) = stage {
-        say_fault(rt, d.line, fault);
-        return ExitCode::SUCCESS;
-    }
-    if let Stage::NoMode = stage {
-        say_fault(rt, d.line, Fault::NotAMode);
-        return ExitCode::SUCCESS;
-    }
-    write(rt, d, presses, lines)
+fn finish(rt: &HostRuntime, drill: &Drill) -> ExitCode {
+    let fault = match drill.stage {
+        Stage::Wrong(fault) => fault,
+        Stage::NoMode => Fault::NotAMode,
+        _ => return write(rt, drill),
+    };
+    say_fault(rt, drill.line, fault);
+    ExitCode::SUCCESS
 }
 
 // A failure where something could not be read or written. A drill that is refused is none, and said on standard error.
 fn main(rt: HostRuntime) -> ExitCode {
-    let mut presses = [0; MOST];
-    let mut lines = [0; MOST];
-    let read = read_all(&rt, &mut presses, &mut lines);
-    let next = read.next;
-    if let Next::Ended = next {
-        return finish(&rt, read.drill, &presses, &lines);
+    let mut drill = Drill::new();
+    if read_all(&rt, &mut drill) {
+        finish(&rt, &drill)
+    } else {
+        ExitCode::FAILURE
     }
-    ExitCode::FAILURE
 }

@@ -1,7 +1,8 @@
 // What the recorder says on standard error: a line that is none, and a drill that the writer refuses, with its line and key.
-use crate::{Fault, MOST};
+use crate::Fault;
 use rules::Refusal;
 
+// One line, as in the player: nothing more is the same there.
 pub(crate) fn say(rt: &HostRuntime, text: &[u8]) {
     let _ = rt.stderr().write_all(text);
 }
@@ -32,19 +33,18 @@ pub(crate) fn say_fault(rt: &HostRuntime, line: u64, fault: Fault) {
 }
 
 // What the writer refuses, with the place of the key among all keys, from 0, and its line.
-pub(crate) fn say_refused(rt: &HostRuntime, r: Refusal, lines: &[u64; MOST]) {
+pub(crate) fn say_refused(rt: &HostRuntime, r: Refusal, lines: &[u64]) {
     let number = r.number;
     let place = r.value;
     say(rt, b"record: ! ");
     say_number(rt, number as u64);
     say(rt, b" ");
     say_number(rt, place as u64);
-    if MOST <= place {
-        say(rt, b"\n");
-        return;
-    }
+    let Some(line) = lines.get(place) else {
+        return say(rt, b"\n");
+    };
     say(rt, b": line ");
-    say_number(rt, lines[place]);
+    say_number(rt, *line);
     say(rt, b", key ");
     say_number(rt, place as u64);
     match number {

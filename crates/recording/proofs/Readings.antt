@@ -1,4 +1,5 @@
 -- The whole reading: more steps than bytes change nothing, it goes on from step to step, and what each step says of the rest.
+use Rattle.std.specs.Prelude.{Some, None, Ok, Err, Option, Result}
 use mathlib.Core.Path.{◌≡◌, refl, sym, ap, subst, ◌∙◌}
 use mathlib.Core.List.{List, []}
 use Prim.Native.Nat.{ℕ, zero, suc, ◌+◌, ◌-◌, ◌≤◌, ◌<◌}
@@ -8,8 +9,6 @@ use Rattle.rules.specs.declared.Refusal.{Refusal}
 use Rattle.recording.specs.Recordings.{onward, step_at, Reading, broken, presses, before, and_then, read_from}
 use Rattle.recording.specs.declared.Progress.{Progress}
 use Rattle.recording.specs.declared.KeyPress.{KeyPress}
-use Rattle.recording.specs.declared.Press.TheVariants.{Pressed, End}
-use Rattle.recording.specs.declared.Press.TheVariants.{Refused as PressRefused}
 use Rattle.recording.specs.declared.Stepped.{Stepped}
 use Rattle.recording.proofs.Presses.{IsFine, is_fine}
 use Rattle.recording.proofs.Meets.{Meets, the_end, a_refusal, a_press, meets}
@@ -65,36 +64,36 @@ pub record MetPress (s : List ℕ) (at : ℕ) (p : Progress) (t : Stepped) (x : 
   pub read : rest_from s at p ≡ before x (rest_from s t.at (onward p x))
 
 -- the three things that a step meets are three
-end_press : {A : Type 0} {x : KeyPress} → End ≡ Pressed x → A
+end_press : {A : Type 0} {x : KeyPress} → ◌≡◌ {A = Result (Option KeyPress) Refusal} (Ok None) (Ok (Some x)) → A
 end_press e = let z : ◌≡◌ {A = ℕ} 0 1 = cc in absurd (omega arith)
 
-refused_press : {A : Type 0} {r : Refusal} {x : KeyPress} → PressRefused r ≡ Pressed x → A
+refused_press : {A : Type 0} {r : Refusal} {x : KeyPress} → ◌≡◌ {A = Result (Option KeyPress) Refusal} (Err r) (Ok (Some x)) → A
 refused_press e = let z : ◌≡◌ {A = ℕ} 0 1 = cc in absurd (omega arith)
 
-end_refused : {A : Type 0} {r : Refusal} → End ≡ PressRefused r → A
+end_refused : {A : Type 0} {r : Refusal} → ◌≡◌ {A = Result (Option KeyPress) Refusal} (Ok None) (Err r) → A
 end_refused e = let z : ◌≡◌ {A = ℕ} 0 1 = cc in absurd (omega arith)
 
-same_press : {x y : KeyPress} → Pressed x ≡ Pressed y → x ≡ y
+same_press : {x y : KeyPress} → ◌≡◌ {A = Result (Option KeyPress) Refusal} (Ok (Some x)) (Ok (Some y)) → x ≡ y
 same_press e = cc
 
-same_refusal : {x y : Refusal} → PressRefused x ≡ PressRefused y → x ≡ y
+same_refusal : {x y : Refusal} → ◌≡◌ {A = Result (Option KeyPress) Refusal} (Err x) (Err y) → x ≡ y
 same_refusal e = cc
 
 module _ (s : List ℕ) (at : ℕ) (p : Progress) where
   abbrev Goes : Stepped → Type 0
   Goes t = at < length s → rest_from s at p ≡ and_then t.press (rest_from s t.at t.progress)
 
-  by_press : (x : KeyPress) (t : Stepped) → Meets s at p t → Goes t → t.press ≡ Pressed x → MetPress s at p t x
+  by_press : (x : KeyPress) (t : Stepped) → Meets s at p t → Goes t → t.press ≡ Ok (Some x) → MetPress s at p t x
   by_press x t (the_end l) g e = end_press e
   by_press x t (a_refusal r l) g e = refused_press e
   by_press x t (a_press y next c l i b) g e = subst (MetPress s at p t) (same_press e) (record { fine = is_fine p y 0 0 c; on = l; within = i; moved = refl; read = g (omega arith) })
 
-  by_refusal : (r : Refusal) (t : Stepped) → Meets s at p t → Goes t → t.press ≡ PressRefused r → rest_from s at p ≡ broken r
+  by_refusal : (r : Refusal) (t : Stepped) → Meets s at p t → Goes t → t.press ≡ Err r → rest_from s at p ≡ broken r
   by_refusal r t (the_end l) g e = end_refused e
   by_refusal r t (a_refusal q l) g e = g l ∙ ap broken (same_refusal e)
   by_refusal r t (a_press y next c l i b) g e = refused_press (sym e)
 
-  by_end : (t : Stepped) → Meets s at p t → t.press ≡ End → rest_from s at p ≡ presses []
+  by_end : (t : Stepped) → Meets s at p t → t.press ≡ (Ok None) → rest_from s at p ≡ presses []
   by_end t (the_end l) e = past_the_end s at p l
   by_end t (a_refusal q l) e = end_refused (sym e)
   by_end t (a_press y next c l i b) e = end_press (sym e)
@@ -106,11 +105,11 @@ module _ (s : List ℕ) (at : ℕ) (p : Progress) where
     goes : Goes t
     goes h = at_a_step s at p h ∙ ap (λ (u : Stepped). and_then u.press (rest_from s u.at u.progress)) (sym is)
 
-    pub met_press : (x : KeyPress) → t.press ≡ Pressed x → MetPress s at p t x
+    pub met_press : (x : KeyPress) → t.press ≡ Ok (Some x) → MetPress s at p t x
     met_press x e = by_press x t met goes e
 
-    pub met_refusal : (r : Refusal) → t.press ≡ PressRefused r → rest_from s at p ≡ broken r
+    pub met_refusal : (r : Refusal) → t.press ≡ Err r → rest_from s at p ≡ broken r
     met_refusal r e = by_refusal r t met goes e
 
-    pub met_end : t.press ≡ End → rest_from s at p ≡ presses []
+    pub met_end : t.press ≡ (Ok None) → rest_from s at p ≡ presses []
     met_end e = by_end t met e

@@ -1,16 +1,13 @@
 -- 23 Writing a drill (docs/RULES.md): the bytes of a drill, and what the writer refuses.
-use Rattle.std.specs.Prelude.{Bool, true, false, List, [], ◌∷◌, ◌++◌, map, ℕ, suc, ◌+◌, ◌*◌, ◌/◌, ◌%◌, ltb}
+use Rattle.std.specs.Prelude.{Bool, true, false, List, [], ◌∷◌, ◌++◌, map, ℕ, suc, ◌+◌, ◌*◌, ◌/◌, ◌%◌, ltb, Result, Ok, Err, ⊤}
 use Rattle.rules.specs.Refusals.{wrong_mode}
 use Rattle.rules.specs.WhatComesBack.{Written}
 use Rattle.rules.specs.declared.Refusal.{Refusal}
-use Rattle.rules.specs.declared.WriteAnswer.TheVariants.{Refused}
 use Rattle.output.specs.Front.{put}
 use Rattle.groups.specs.Numbers.{limit, written}
 use Rattle.recording.specs.Recordings.{press, none_yet, onward, refused_for, checked}
 use Rattle.recording.specs.declared.Progress.{Progress}
 use Rattle.recording.specs.declared.KeyPress.{KeyPress}
-use Rattle.recording.specs.declared.Checked.{Checked}
-use Rattle.recording.specs.declared.Checked.TheVariants.{Fine, Faulty}
 
 -- 23.1 The writer is handed each press as one number: the key, and 256 times the milliseconds.
 abbrev pub press_in : ℕ → KeyPress
@@ -35,22 +32,22 @@ abbrev pub drill_bytes : ℕ → List KeyPress → List ℕ
 drill_bytes mode xs = written mode ++ presses_bytes xs
 
 -- 23.4 The first faulty press is refused, 2, 3 or 11, with its place among the presses, from 0.
-abbrev pub unless : Checked → Checked → Checked
-unless Fine later = later
-unless (Faulty r) later = Faulty r
+abbrev pub unless : Result ⊤ Refusal → Result ⊤ Refusal → Result ⊤ Refusal
+unless (Ok tt) later = later
+unless (Err r) later = Err r
 
-abbrev pub checked_from : Progress → ℕ → List KeyPress → Checked
-checked_from p i [] = Fine
+abbrev pub checked_from : Progress → ℕ → List KeyPress → Result ⊤ Refusal
+checked_from p i [] = Ok tt
 checked_from p i (x ∷ xs) = unless (checked p x i i) (checked_from (onward p x) (suc i) xs)
 
 -- 23.5 The writer refuses 1 with 0, then the first faulty press, then 4 with the bytes needed. Refused, the output is
 -- as it was.
 abbrev pub refused_writing : Refusal → List ℕ → Written
-refused_writing r out = record { answer = Refused r; output = out }
+refused_writing r out = record { answer = Err r; output = out }
 
-abbrev pub written_after : Checked → ℕ → List KeyPress → List ℕ → Written
-written_after (Faulty r) mode xs out = refused_writing r out
-written_after Fine mode xs out = put (drill_bytes mode xs) out
+abbrev pub written_after : Result ⊤ Refusal → ℕ → List KeyPress → List ℕ → Written
+written_after (Err r) mode xs out = refused_writing r out
+written_after (Ok tt) mode xs out = put (drill_bytes mode xs) out
 
 abbrev pub written_if : Bool → ℕ → List KeyPress → List ℕ → Written
 written_if true mode xs out = refused_writing (refused_for 1 0) out

@@ -1,33 +1,25 @@
--- The conditions of refusal 8 in the order in which the code asks them, and one turn of each loop.
-use mathlib.Core.Path.{◌≡◌, refl, ap, ap₂, sym, subst, ◌∙◌}
+-- The conditions of refusal 8 in the order in which the code asks them.
+use mathlib.Core.Path.{◌≡◌, refl, ap, ap₂, sym, ◌∙◌}
 use mathlib.Core.Bool.{Bool, true, false, not, ◌&&◌, ◌||◌}
 use mathlib.Core.List.{List, [], ◌∷◌}
-use Prim.Native.Nat.{ℕ, ◌+◌, ◌-◌, ◌<◌, ◌≤◌}
-use native.Mathlib.Numerals.{add-one}
+use Prim.Native.Nat.{ℕ, ◌+◌, ◌≤◌}
 use native.Mathlib.Omega.{arith}
 use borrow.Author.Tests.{le-ltb, ltb-false, eqb-true}
 use lib.Dec.{eqb, ltb}
 use Rattle.rules.specs.Letters.{dot}
-use lib.ListN.{length, take, drop, get_or, drop_of_length-le}
-use lib.Seq.{drop-cons}
+use lib.ListN.{take}
+use Rattle.std.specs.List.{list_all}
 use Rattle.rules.specs.TheWord.{most_keys, letter}
 use Rattle.rules.specs.KeyRoles.{is_key}
 use Rattle.rules.specs.Refusals.{all, any, all_letters, is_mode, counts_over, letter_allowed, shape_carried, no_capital_digit, out_of_range}
 use Rattle.rules.specs.declared.Word.{Word}
 use Rattle.letters.specs.Writing.{is_letter}
-use Rattle.records.specs.declared.Numbers.{Numbers}
-use Rattle.records.specs.Numbers.{numbers_of, word_in, numbers_wrong, places_wrong}
+use Rattle.records.specs.Numbers.{numbers_wrong, places_wrong}
 
--- one turn
-module _ (f : ℕ → Bool) (s : List ℕ) (i : ℕ) where
-  pub all_stop : i < length s → f (get_or s i 0) ≡ false → all f (drop i s) ≡ false
-  all_stop h e = rw (drop-cons s i 0 h, e)
-
-  pub all_on : i < length s → f (get_or s i 0) ≡ true → all f (drop i s) ≡ all f (drop (i + 1) s)
-  all_on h e = rw (drop-cons s i 0 h, e, add-one)
-
-  pub all_end : length s ≤ i → all f (drop i s) ≡ true
-  all_end h = rw (drop_of_length-le s h)
+-- the library's question of a list is the table's
+pub all_is : (f : ℕ → Bool) (xs : List ℕ) → list_all f xs ≡ all f xs
+all_is f [] = refl
+all_is f (x ∷ xs) = ap (◌&&◌ (f x)) (all_is f xs)
 
 -- the three questions on letters as one
 all_three : (mode : ℕ) (ns : List ℕ) → all (is_letter mode) ns ≡ (all (letter_allowed mode) ns && (all_letters shape_carried ns && all_letters no_capital_digit ns))
@@ -69,9 +61,6 @@ not_three true true c = refl
 not_three true false c = refl
 not_three false b c = refl
 
-abbrev places_of : Word → Bool
-places_of w = places_wrong w.typed w.count w.appended_by w.shaped_by w.toned_by
-
 -- those on the numbers and on the places, which are asked together, before those on keys and letters
 places_first : (n k l p : Bool) → (n || (k || (l || p))) ≡ ((n || p) || (k || l))
 places_first true k l p = refl
@@ -82,16 +71,16 @@ places_first false false true false = refl
 places_first false false false true = refl
 places_first false false false false = refl
 
-range_is : (w : Word) → out_of_range w ≡ ((numbers_wrong w.mode (numbers_of w) || places_of w) || (not (all (is_key w.mode) (take w.typed w.keys)) || not (all (is_letter w.mode) (take w.count w.letters))))
+range_is : (w : Word) → out_of_range w ≡ ((numbers_wrong w || places_wrong w) || (not (all (is_key w.mode) (take w.typed w.keys)) || not (all (is_letter w.mode) (take w.count w.letters))))
 unfolding out_of_range
 range_is w =
     let ns = take w.count w.letters in
     let ks = not (all (is_key w.mode) (take w.typed w.keys)) in
     numbers_first (any (counts_over w)) (ltb w.typed w.count) (not (eqb (w.acted + w.undone + w.appended) w.typed)) ks
-    (not (all (letter_allowed w.mode) ns)) (not (all_letters shape_carried ns)) (not (all_letters no_capital_digit ns)) (ltb dot w.tone) (not (is_mode w.mode)) (places_of w) ∙
-    ap (λ (b : Bool). numbers_wrong w.mode (numbers_of w) || (ks || (b || places_of w)))
+    (not (all (letter_allowed w.mode) ns)) (not (all_letters shape_carried ns)) (not (all_letters no_capital_digit ns)) (ltb dot w.tone) (not (is_mode w.mode)) (places_wrong w) ∙
+    ap (λ (b : Bool). numbers_wrong w || (ks || (b || places_wrong w)))
     (not_three (all (letter_allowed w.mode) ns) (all_letters shape_carried ns) (all_letters no_capital_digit ns) ∙ ap not (sym (all_three w.mode ns))) ∙
-    places_first (numbers_wrong w.mode (numbers_of w)) ks (not (all (is_letter w.mode) ns)) (places_of w)
+    places_first (numbers_wrong w) ks (not (all (is_letter w.mode) ns)) (places_wrong w)
 
 or-false : (p q : Bool) → p || q ≡ false → (p ≡ false) × (q ≡ false)
 or-false true q e = let z : ◌≡◌ {A = ℕ} 0 1 = cc in absurd (omega arith)
@@ -101,6 +90,12 @@ or-false false q e = (refl, e)
 or-true : (p : Bool) → true ≡ p || true
 or-true true = refl
 or-true false = refl
+
+in_a_row : (a b c d e : Bool) → ((((a || b) || c) || d) || e) ≡ (a || (b || (c || (d || e))))
+in_a_row true b c d e = refl
+in_a_row false true c d e = refl
+in_a_row false false true d e = refl
+in_a_row false false false d e = refl
 
 module _ (t c a u p : ℕ) (x : Bool) where
   abbrev others : Bool
@@ -116,27 +111,25 @@ module _ (t c a u p : ℕ) (x : Bool) where
       let sum = eqb-true (a + u + p) t es in
       rw (le-ltb most_keys c (omega arith), le-ltb most_keys a (omega arith), le-ltb most_keys u (omega arith), le-ltb most_keys p (omega arith))
 
-module _ (mode : ℕ) (n : Numbers) where
-  pub counts_by_sum : (ltb most_keys n.typed || (ltb n.typed n.count || (not (eqb (n.acted + n.undone + n.appended) n.typed) || (ltb dot n.tone || not (is_mode mode))))) ≡ numbers_wrong mode n
-  counts_by_sum = by_sum n.typed n.count n.acted n.undone n.appended (ltb dot n.tone || not (is_mode mode)) _ _ _ refl refl refl
+module _ (w : Word) where
+  pub counts_by_sum : ((((ltb most_keys w.typed || ltb w.typed w.count) || not (eqb (w.acted + w.undone + w.appended) w.typed)) || ltb dot w.tone) || not (is_mode w.mode)) ≡ numbers_wrong w
+  counts_by_sum =
+      in_a_row (ltb most_keys w.typed) (ltb w.typed w.count) _ _ _ ∙ by_sum w.typed w.count w.acted w.undone w.appended (ltb dot w.tone || not (is_mode w.mode)) _ _ _ refl refl refl
 
   -- counts in order are at most 32
-  module _ (e : numbers_wrong mode n ≡ false) where
-    in_order : any (counts_over (word_in mode [] [] [] [] 0 n)) ≡ false
-    in_order = (or-false (any (counts_over (word_in mode [] [] [] [] 0 n))) _ e).0
+  module _ (e : numbers_wrong w ≡ false) where
+    in_order : any (counts_over w) ≡ false
+    in_order = (or-false (any (counts_over w)) _ e).0
 
-    typed_small : n.typed ≤ most_keys
-    typed_small = ltb-false most_keys n.typed (or-false (ltb most_keys n.typed) _ in_order).0
+    typed_small : w.typed ≤ most_keys
+    typed_small = ltb-false most_keys w.typed (or-false (ltb most_keys w.typed) _ in_order).0
 
-    count_small : n.count ≤ most_keys
-    count_small = ltb-false most_keys n.count (or-false (ltb most_keys n.count) _ (or-false (ltb most_keys n.typed) _ in_order).1).0
+    count_small : w.count ≤ most_keys
+    count_small = ltb-false most_keys w.count (or-false (ltb most_keys w.count) _ (or-false (ltb most_keys w.typed) _ in_order).1).0
 
 -- the range by the questions, one after the other: of the numbers and the places of keys, of the kept keys, of the letters
-front : (f : ℕ → Bool) (l : List ℕ) (n : ℕ) {r : Bool} → r ≡ all f (take (n - 0) (drop 0 l)) → all f (take n l) ≡ r
-front f l n e = let z : n ≡ n - 0 = omega arith in ap (λ (m : ℕ). all f (take m l)) z ∙ sym e
-
-module _ (w : Word) {a b : Bool} (nw : a ≡ numbers_wrong w.mode (numbers_of w)) (pw : b ≡ places_wrong w.typed w.count w.appended_by w.shaped_by w.toned_by) where
-  by_both : {c : Bool} → (a || b) ≡ c → (numbers_wrong w.mode (numbers_of w) || places_of w) ≡ c
+module _ (w : Word) {a b : Bool} (nw : a ≡ numbers_wrong w) (pw : b ≡ places_wrong w) where
+  by_both : {c : Bool} → (a || b) ≡ c → (numbers_wrong w || places_wrong w) ≡ c
   by_both e = sym (ap₂ ◌||◌ nw pw) ∙ e
 
   pub by_numbers : (a || b) ≡ true → out_of_range w ≡ true
@@ -144,38 +137,11 @@ module _ (w : Word) {a b : Bool} (nw : a ≡ numbers_wrong w.mode (numbers_of w)
 
   module _ (e : (a || b) ≡ false) where
     pub few : (w.typed ≤ most_keys) × (w.count ≤ most_keys)
-    few = let f = sym nw ∙ (or-false a b e).0 in (typed_small w.mode (numbers_of w) f, count_small w.mode (numbers_of w) f)
+    few = let f = sym nw ∙ (or-false a b e).0 in (typed_small w f, count_small w f)
 
-    module _ {r : Bool} (k : r ≡ all (is_key w.mode) (take (w.typed - 0) (drop 0 w.keys))) where
+    module _ {r : Bool} (k : r ≡ all (is_key w.mode) (take w.typed w.keys)) where
       pub by_keys : r ≡ false → out_of_range w ≡ true
-      by_keys f = rw (range_is w, by_both e, front (is_key w.mode) w.keys w.typed k, f)
+      by_keys f = rw (range_is w, by_both e, sym k, f)
 
-      pub by_letters : r ≡ true → {q : Bool} → q ≡ all (is_letter w.mode) (take (w.count - 0) (drop 0 w.letters)) → out_of_range w ≡ not q
-      by_letters t l = rw (range_is w, by_both e, front (is_key w.mode) w.keys w.typed k, t, front (is_letter w.mode) w.letters w.count l)
-
--- the range by the questions, with the record's numbers taken out of it
-module _ (w : Word) (n : Numbers) (numbered : n ≡ numbers_of w) {a b : Bool} (nw : a ≡ numbers_wrong w.mode n) (pw : b ≡ places_wrong n.typed n.count w.appended_by w.shaped_by w.toned_by) where
-  abbrev nw' : a ≡ numbers_wrong w.mode (numbers_of w)
-  nw' = nw ∙ ap (numbers_wrong w.mode) numbered
-
-  abbrev pw' : b ≡ places_wrong w.typed w.count w.appended_by w.shaped_by w.toned_by
-  pw' = pw ∙ ap (λ (m : Numbers). places_wrong m.typed m.count w.appended_by w.shaped_by w.toned_by) numbered
-
-  pub out_by_numbers : a || b ≡ true → out_of_range w ≡ true
-  out_by_numbers f = by_numbers w nw' pw' f
-
-  module _ (f : a || b ≡ false) where
-    pub at_most : (n.typed ≤ most_keys) × (n.count ≤ most_keys)
-    at_most = subst (λ (m : Numbers). (m.typed ≤ most_keys) × (m.count ≤ most_keys)) (sym numbered) (few w nw' pw' f)
-
-    module _ {c : Bool} (ks : c ≡ all (is_key w.mode) (take (n.typed - 0) (drop 0 w.keys))) where
-      abbrev ks' : c ≡ all (is_key w.mode) (take (w.typed - 0) (drop 0 w.keys))
-      ks' = ks ∙ ap (λ (m : Numbers). all (is_key w.mode) (take (m.typed - 0) (drop 0 w.keys))) numbered
-
-      pub out_by_keys : c ≡ false → out_of_range w ≡ true
-      out_by_keys g = by_keys w nw' pw' f ks' g
-
-      pub out_by_letters : c ≡ true → {letters : List ℕ} → letters ≡ w.letters → {d : Bool} → d ≡ all (is_letter w.mode) (take (n.count - 0) (drop 0 letters)) → out_of_range w ≡ not d
-      out_by_letters g l q =
-          by_letters w nw' pw' f ks' g
-          (q ∙ ap₂ (λ (m : Numbers) (own : List ℕ). all (is_letter w.mode) (take (m.count - 0) (drop 0 own))) numbered l)
+      pub by_letters : r ≡ true → {own : List ℕ} → own ≡ w.letters → {q : Bool} → q ≡ all (is_letter w.mode) (take w.count own) → out_of_range w ≡ not q
+      by_letters t o l = rw (range_is w, by_both e, sym k, t, sym o, sym l)

@@ -24,16 +24,16 @@ keys_allowed_one κs a r r' e e' p p' = p ∙ sym p'
 pub letters_allowed_one : (κs : Lfts 1) (a : Args letters_allowed.signature κs) (r r' : Res letters_allowed.signature κs) (e e' : AtExit letters_allowed.ended κs) → letters-allowed-reads.Post κs a r e → letters-allowed-reads.Post κs a r' e' → r ≡ r'
 letters_allowed_one κs a r r' e e' p p' = p ∙ sym p'
 
-pub places_wrong_one : (κs : Lfts 2) (a : Args places-wrong.signature κs) (r r' : Res places-wrong.signature κs) (e e' : AtExit places-wrong.ended κs) → places-wrong-reads.Post κs a r e → places-wrong-reads.Post κs a r' e' → r ≡ r'
+pub places_wrong_one : (κs : Lfts 1) (a : Args places-wrong.signature κs) (r r' : Res places-wrong.signature κs) (e e' : AtExit places-wrong.ended κs) → places-wrong-reads.Post κs a r e → places-wrong-reads.Post κs a r' e' → r ≡ r'
 places_wrong_one κs a r r' e e' p p' = p ∙ sym p'
 
-pub lent_out_of_range_one : (κs : Lfts 4) (a : Args lent-out-of-range.signature κs) (r r' : Res lent-out-of-range.signature κs) (e e' : AtExit lent-out-of-range.ended κs) → lent-out-of-range-reads.Post κs a r e → lent-out-of-range-reads.Post κs a r' e' → r ≡ r'
+pub lent_out_of_range_one : (κs : Lfts 1) (a : Args lent-out-of-range.signature κs) (r r' : Res lent-out-of-range.signature κs) (e e' : AtExit lent-out-of-range.ended κs) → lent-out-of-range-reads.Post κs a r e → lent-out-of-range-reads.Post κs a r' e' → r ≡ r'
 lent_out_of_range_one κs a r r' e e' p p' = p ∙ sym p'
 
 pub numbers_of_one : (κs : Lfts 0) (a : Args numbers-of.signature κs) (r r' : Res numbers-of.signature κs) (e e' : AtExit numbers-of.ended κs) → numbers-of-reads.Post κs a r e → numbers-of-reads.Post κs a r' e' → r ≡ r'
 numbers_of_one κs a r r' e e' p p' = p ∙ sym p'
 
-pub numbers_wrong_one : (κs : Lfts 0) (a : Args numbers-wrong.signature κs) (r r' : Res numbers-wrong.signature κs) (e e' : AtExit numbers-wrong.ended κs) → numbers-wrong-reads.Post κs a r e → numbers-wrong-reads.Post κs a r' e' → r ≡ r'
+pub numbers_wrong_one : (κs : Lfts 1) (a : Args numbers-wrong.signature κs) (r r' : Res numbers-wrong.signature κs) (e e' : AtExit numbers-wrong.ended κs) → numbers-wrong-reads.Post κs a r e → numbers-wrong-reads.Post κs a r' e' → r ≡ r'
 numbers_wrong_one κs a r r' e e' p p' = p ∙ sym p'
 
 pub out_of_range_one : (κs : Lfts 0) (a : Args out_of_range_law.signature κs) (r r' : Res out_of_range_law.signature κs) (e e' : AtExit out_of_range_law.ended κs) → out-of-range-reads.Post κs a r e → out-of-range-reads.Post κs a r' e' → r ≡ r'

@@ -28,13 +28,13 @@ word_in mode letters appended_by shaped_by keys toned_by n =
       appended = n.appended;
     }
 
-abbrev pub numbers_wrong : ℕ → Numbers → Bool
-numbers_wrong mode n = any (count_faults (word_in mode [] [] [] [] 0 n) ++ tone_and_mode_faults (word_in mode [] [] [] [] 0 n))
+abbrev pub numbers_wrong : Word → Bool
+numbers_wrong w = any (count_faults w ++ tone_and_mode_faults w)
 
 -- how many keys must be typed for a place to be that of one of them
 abbrev pub keys_for : ℕ → ℕ
 keys_for p = elim (eqb p no_key) [ true ↦ 0 | false ↦ p + 1 ]
 
-abbrev pub places_wrong : ℕ → ℕ → List ℕ → List ℕ → ℕ → Bool
-places_wrong typed count appended_by shaped_by toned_by =
-    any (not (all (is_place typed) (take count appended_by)) ∷ not (all (is_place_or_none typed) (take count shaped_by)) ∷ not (is_place_or_none typed toned_by) ∷ [])
+abbrev pub places_wrong : Word → Bool
+places_wrong w =
+    any (not (all (is_place w.typed) (take w.count w.appended_by)) ∷ not (all (is_place_or_none w.typed) (take w.count w.shaped_by)) ∷ not (is_place_or_none w.typed w.toned_by) ∷ [])

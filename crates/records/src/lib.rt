@@ -5,7 +5,7 @@ ghost use Rattle.std.specs.Prelude.{◌≡◌};
 ghost use Rattle.rules.specs.KeyRoles.{is_key};
 ghost use Rattle.rules.specs.Refusals.{all, out_of_range as out_of_range_of};
 ghost use Rattle.letters.specs.Writing.{is_letter};
-ghost use Rattle.records.specs.Numbers.{numbers_of as numbers_of_of, word_in, numbers_wrong as numbers_wrong_of, keys_for as keys_for_of, places_wrong as places_wrong_of};
+ghost use Rattle.records.specs.Numbers.{numbers_of as numbers_of_of, numbers_wrong as numbers_wrong_of, keys_for as keys_for_of, places_wrong as places_wrong_of};
 
 use rules::{DOT, Word};
 
@@ -13,28 +13,14 @@ use rules::{DOT, Word};
 pub fn keys_allowed(mode: u8, keys: &[u8]) -> bool
     ensures { result ≡ all (is_key mode) keys.now }
 {
-    let mut i = 0;
-    while i < keys.len() {
-        if !keys::is_key(mode, keys[i]) {
-            return false;
-        }
-        i += 1;
-    }
-    true
+    keys.iter().all(|&k| keys::is_key(mode, k))
 }
 
 // Each number is a letter that the mode allows, in a shape that it can carry, and no digit is marked as a capital.
 pub fn letters_allowed(mode: u8, letters: &[u16]) -> bool
     ensures { result ≡ all (is_letter mode) letters.now }
 {
-    let mut i = 0;
-    while i < letters.len() {
-        if !letters::is_letter(mode, letters[i]) {
-            return false;
-        }
-        i += 1;
-    }
-    true
+    letters.iter().all(|&n| letters::is_letter(mode, n))
 }
 
 // How many keys must be typed for a place to be that of one of them; none for that of no key.
@@ -48,27 +34,18 @@ fn keys_for(place: u8) -> u8
 }
 
 // A letter's key that is not among those typed, or the tone's. The turns are as many for every word, so that the compiler takes sixteen
-// letters at once; what stands past the letters is of no account.
-pub fn places_wrong(
-    typed: u8,
-    count: u8,
-    appended_by: &[u8; Word::KEYS],
-    shaped_by: &[u8; Word::KEYS],
-    toned_by: u8,
-) -> bool
-    ensures { result ≡ places_wrong_of typed count appended_by.now shaped_by.now toned_by }
+// letters at once; what stands past the letters is of no account. The arrays are taken out of the word: where they are gone over in it, a
+// caller that has read the word just before must put all of it into memory.
+pub fn places_wrong(w: &Word) -> bool
+    ensures { result ≡ places_wrong_of w.now }
 {
-    let by = &appended_by[..];
-    let shaped = &shaped_by[..];
+    let appended_by = w.appended_by;
+    let shaped_by = w.shaped_by;
     let mut wrong = false;
-    let mut nth: u8 = 1;
-    let mut i = 0;
-    while i < Word::KEYS {
-        wrong = wrong | ((nth <= count) & ((typed <= by[i]) | (typed < keys_for(shaped[i]))));
-        nth += 1;
-        i += 1;
+    for (i, (&by, &shaped)) in appended_by.iter().zip(&shaped_by).enumerate() {
+        wrong |= ((i as u8) < w.count) & ((w.typed <= by) | (w.typed < keys_for(shaped)));
     }
-    wrong | (typed < keys_for(toned_by))
+    wrong | (w.typed < keys_for(w.toned_by))
 }
 
 // A word's numbers: its record without the mode, which never changes, the arrays and the place of the tone's key. In this order the
@@ -84,6 +61,7 @@ pub struct Numbers {
     pub appended: u8,
 }
 
+// An entry of its own, by its clause: the definition of a record's numbers is said over them.
 pub fn numbers_of(w: Word) -> Numbers
     ensures { result ≡ numbers_of_of w }
 {
@@ -100,55 +78,30 @@ pub fn numbers_of(w: Word) -> Numbers
 
 // A count over 32, more letters than keys, counts that do not add up to the keys, a tone or a mode that does not exist.
 // No more than 32 keys, no more letters than keys, and a sum that is the keys: so no count is over 32.
-pub fn numbers_wrong(mode: u8, n: Numbers) -> bool
-    ensures { result ≡ numbers_wrong_of mode n }
+pub fn numbers_wrong(w: &Word) -> bool
+    ensures { result ≡ numbers_wrong_of w.now }
 {
-    let typed = n.typed as usize;
-    ((Word::KEYS as u8) < n.typed)
-        | ((n.typed < n.count)
-            | (!(n.acted as usize + n.undone as usize + n.appended as usize == typed)
-                | ((DOT < n.tone) | !keys::is_mode(mode))))
+    // Named before the sum: the loop over the keys then goes by it, and not by the sum.
+    let typed = w.typed as usize;
+    (Word::KEYS < typed)
+        | (w.typed < w.count)
+        | (w.acted as usize + w.undone as usize + w.appended as usize != typed)
+        | (DOT < w.tone)
+        | !keys::is_mode(w.mode)
 }
 
-// The same of a record whose arrays are lent.
-pub fn lent_out_of_range(
-    letters: &[u16; Word::KEYS],
-    appended_by: &[u8; Word::KEYS],
-    shaped_by: &[u8; Word::KEYS],
-    keys: &[u8; Word::KEYS],
-    toned_by: u8,
-    mode: u8,
-    n: Numbers,
-) -> bool
-    ensures { result ≡ out_of_range_of (word_in mode letters.now appended_by.now shaped_by.now keys.now toned_by n) }
+// The same of a record that is lent.
+pub fn lent_out_of_range(w: &Word) -> bool
+    ensures { result ≡ out_of_range_of w.now }
 {
-    if numbers_wrong(mode, n) | places_wrong(n.typed, n.count, appended_by, shaped_by, toned_by) {
-        return true;
-    }
-    let typed = n.typed as usize;
-    let kept = &keys[..];
-    if !keys_allowed(mode, &kept[0..typed]) {
-        return true;
-    }
-    let count = n.count as usize;
-    let held = &letters[..];
-    !letters_allowed(mode, &held[0..count])
+    numbers_wrong(w) | places_wrong(w)
+        || !keys_allowed(w.mode, &w.keys[..w.typed as usize])
+        || !letters_allowed(w.mode, &w.letters[..w.count as usize])
 }
 
+// An entry of its own: of a record by value.
 pub fn out_of_range(w: Word) -> bool
     ensures { result ≡ out_of_range_of w }
 {
-    let letters = w.letters;
-    let appended_by = w.appended_by;
-    let shaped_by = w.shaped_by;
-    let keys = w.keys;
-    lent_out_of_range(
-        &letters,
-        &appended_by,
-        &shaped_by,
-        &keys,
-        w.toned_by,
-        w.mode,
-        numbers_of(w),
-    )
+    lent_out_of_range(&w)
 }

@@ -1,4 +1,5 @@
 -- How far a pass has come: the words so far, the keys of the word that has begun, and that what is still to be read ends as the whole does.
+use Rattle.std.specs.Prelude.{Ok, Err}
 use mathlib.Core.Path.{◌≡◌, refl, sym, ap, subst, ◌∙◌}
 use mathlib.Core.Bool.{Bool, true, false, not, ◌||◌}
 use mathlib.Core.List.{List, [], ◌∷◌, ◌++◌, append-nil}
@@ -19,7 +20,6 @@ use Rattle.recording.specs.Recordings.{is_space, in_word, onward, begin, broken,
 use Rattle.recording.specs.declared.Progress.{Progress}
 use Rattle.recording.specs.declared.KeyPress.{KeyPress}
 use Rattle.recording.specs.declared.Begun.{Begun}
-use Rattle.recording.specs.declared.BeginAnswer.TheVariants.{Begins}
 use Rattle.recording.proofs.Presses.{IsFine, has_room}
 use Rattle.recording.proofs.Openings.{opened}
 use Rattle.recording.proofs.Readings.{rest_from, enough}
@@ -27,13 +27,11 @@ use Rattle.recording.proofs.Needed.{put_more}
 use Rattle.replay.specs.Replays.{last_word, committed_line, Tally, of_word, nothing, together, of_words}
 use Rattle.replay.specs.Passes.{total_of, Outcome, finished, outcome, throughout, found_of, passage_of, LinesPut, FitsKeys, line_at, some_keys, total_if, keys_unless, output_if}
 use Rattle.replay.specs.declared.Found.{Found}
-use Rattle.replay.specs.declared.Passage.TheVariants.{Passed, Broken}
-use Rattle.replay.specs.declared.Total.{Total}
 use Rattle.replay.proofs.Totals.{one_or_none, has_room as line_there, as_long}
 use Rattle.replay.proofs.Words.{line_long, its_counts}
 use Rattle.replay.proofs.Tallies.{with_one, with_last, at_space, at_key}
 
-pub record Going (s out₀ : List ℕ) (at₀ : ℕ) (p₀ : Progress) (out : List ℕ) (at : ℕ) (p : Progress) (keys : List ℕ) (total : Total) : Type 0 where
+pub record Going (s out₀ : List ℕ) (at₀ : ℕ) (p₀ : Progress) (out : List ℕ) (at : ℕ) (p : Progress) (keys : List ℕ) (total : Found) : Type 0 where
   pub tally : Tally
   pub is_total : total ≡ total_of tally
   pub same : outcome p.mode tally (take p.in_word keys) p.milliseconds (rest_from s at p) ≡ outcome p₀.mode nothing [] p₀.milliseconds (rest_from s at₀ p₀)
@@ -47,15 +45,15 @@ pub record Going (s out₀ : List ℕ) (at₀ : ℕ) (p₀ : Progress) (out : Li
   pub inside : at ≤ length s
   -- no more bytes than two for each of the recording, and no count over its place
   pub written : total.written + 3 * p.in_word ≤ 2 * at
-  pub words : total.words ≤ at
-  pub kept : total.kept ≤ at
-  pub restored : total.restored ≤ at
-  pub acted : total.acted + p.in_word ≤ at
-  pub undone : total.undone + p.in_word ≤ at
-  pub appended : total.appended + p.in_word ≤ at
+  pub words : total.summary.words ≤ at
+  pub kept : total.summary.kept ≤ at
+  pub restored : total.summary.restored ≤ at
+  pub acted : total.summary.acted + p.in_word ≤ at
+  pub undone : total.summary.undone + p.in_word ≤ at
+  pub appended : total.summary.appended + p.in_word ≤ at
 
 -- no sum of the next word wraps
-pub fits : {s out₀ : List ℕ} {at₀ : ℕ} {p₀ : Progress} {out : List ℕ} {at : ℕ} {p : Progress} {keys : List ℕ} {total : Total} → length s * 1 < 9223372036854775808 → Going s out₀ at₀ p₀ out at p keys total → FitsKeys total p.in_word
+pub fits : {s out₀ : List ℕ} {at₀ : ℕ} {p₀ : Progress} {out : List ℕ} {at : ℕ} {p : Progress} {keys : List ℕ} {total : Found} → length s * 1 < 9223372036854775808 → Going s out₀ at₀ p₀ out at p keys total → FitsKeys total p.in_word
 fits h g = record {
   written = omega (arith, g.written, g.inside);
   words = omega (arith, g.words, g.inside);
@@ -67,11 +65,11 @@ fits h g = record {
 }
 
 -- a line more in its place
-line_put : {s out₀ : List ℕ} {at₀ : ℕ} {p₀ : Progress} {out : List ℕ} {at : ℕ} {p : Progress} {keys : List ℕ} {total : Total} (g : Going s out₀ at₀ p₀ out at p keys total) (line : List ℕ)
+line_put : {s out₀ : List ℕ} {at₀ : ℕ} {p₀ : Progress} {out : List ℕ} {at : ℕ} {p : Progress} {keys : List ℕ} {total : Found} (g : Going s out₀ at₀ p₀ out at p keys total) (line : List ℕ)
     {out' : List ℕ} → out' ≡ line_at total.written line out → length (g.tally.text ++ line) ≤ length out₀ → out' ≡ at_front (g.tally.text ++ line) out₀
 line_put {out₀ = out₀} {out = out} {total = total} g line o h =
     let all = length-append g.tally.text line in
-    let so_far = ap (λ (u : Total). u.written) g.is_total in
+    let so_far = ap (λ (u : Found). u.written) g.is_total in
     o ∙ sym (line_there total.written line out (omega (arith, h, all, so_far, g.long))) ∙
     put_more g.tally.text line out₀ out 0 total.written (omega (arith, h, all)) (omega (arith, so_far), g.put (omega (arith, h, all)))
 
@@ -88,7 +86,7 @@ is_allowed p x fine e = by (is_key p.mode x.key) (sym (ap (λ (b : Bool). not (b
     by false f = let z : ◌≡◌ {A = ℕ} 0 1 = cc in absurd (omega arith)
 
 -- a press more
-module _ {s out₀ : List ℕ} {at₀ : ℕ} {p₀ : Progress} {out : List ℕ} {at : ℕ} {p : Progress} {keys : List ℕ} {total : Total} (g : Going s out₀ at₀ p₀ out at p keys total)
+module _ {s out₀ : List ℕ} {at₀ : ℕ} {p₀ : Progress} {out : List ℕ} {at : ℕ} {p : Progress} {keys : List ℕ} {total : Found} (g : Going s out₀ at₀ p₀ out at p keys total)
     (x : KeyPress) (next : ℕ) (fine : IsFine p x) (on : at + 2 ≤ next) (within : next ≤ length s) (read : rest_from s at p ≡ before x (rest_from s next (onward p x))) where
   abbrev ks : List ℕ
   ks = take p.in_word keys
@@ -96,7 +94,7 @@ module _ {s out₀ : List ℕ} {at₀ : ℕ} {p₀ : Progress} {out : List ℕ} 
   few_keys : length ks ≡ p.in_word
   few_keys = simp length-take (omega (arith, g.array, g.few))
 
-  after_space : is_space x.key ≡ true → (total' : Total) (keys' out' : List ℕ) → total' ≡ total_if true p.mode ks total → keys' ≡ keys_unless true keys p.in_word x.key → out' ≡ output_if true p.mode ks total out
+  after_space : is_space x.key ≡ true → (total' : Found) (keys' out' : List ℕ) → total' ≡ total_if true p.mode ks total → keys' ≡ keys_unless true keys p.in_word x.key → out' ≡ output_if true p.mode ks total out
       → Going s out₀ at₀ p₀ out' next (onward p x) keys' total'
   after_space e total' keys' out' t k o =
       let none : (onward p x).in_word ≡ 0 = ap (λ (b : Bool). in_word b p.in_word) e in
@@ -105,7 +103,7 @@ module _ {s out₀ : List ℕ} {at₀ : ℕ} {p₀ : Progress} {out : List ℕ} 
       let counts = its_counts p.mode ks g.mode (omega (arith, few_keys, g.few)) g.allowed in
       record {
         tally = together g.tally (of_word z);
-        is_total = t ∙ ap (λ (u : Total). total_if true p.mode ks u) g.is_total ∙ with_one g.tally p.mode ks;
+        is_total = t ∙ ap (λ (u : Found). total_if true p.mode ks u) g.is_total ∙ with_one g.tally p.mode ks;
         same =
             ap (λ (n : ℕ). outcome p.mode (together g.tally (of_word z)) (take n keys') (p.milliseconds + x.milliseconds) (rest_from s next (onward p x))) none ∙
             at_space p.mode g.tally ks p.milliseconds x e (rest_from s next (onward p x)) ∙ ap (outcome p.mode g.tally ks p.milliseconds) (sym read) ∙ g.same;
@@ -117,13 +115,13 @@ module _ {s out₀ : List ℕ} {at₀ : ℕ} {p₀ : Progress} {out : List ℕ} 
         allowed = subst (λ (n : ℕ). T (all (is_key p.mode) (take n keys'))) (sym none) tt;
         short = fine.short;
         inside = within;
-        written = omega (arith, none, ap (λ (u : Total). u.written) t, line, few_keys, g.written);
-        words = omega (arith, ap (λ (u : Total). u.words) t, g.words);
-        kept = omega (arith, ap (λ (u : Total). u.kept) t, g.kept, one_or_none (decision z));
-        restored = omega (arith, ap (λ (u : Total). u.restored) t, g.restored, one_or_none (decision z));
-        acted = omega (arith, none, ap (λ (u : Total). u.acted) t, counts, few_keys, g.acted);
-        undone = omega (arith, none, ap (λ (u : Total). u.undone) t, counts, few_keys, g.undone);
-        appended = omega (arith, none, ap (λ (u : Total). u.appended) t, counts, few_keys, g.appended);
+        written = omega (arith, none, ap (λ (u : Found). u.written) t, line, few_keys, g.written);
+        words = omega (arith, ap (λ (u : Found). u.summary.words) t, g.words);
+        kept = omega (arith, ap (λ (u : Found). u.summary.kept) t, g.kept, one_or_none (decision z));
+        restored = omega (arith, ap (λ (u : Found). u.summary.restored) t, g.restored, one_or_none (decision z));
+        acted = omega (arith, none, ap (λ (u : Found). u.summary.acted) t, counts, few_keys, g.acted);
+        undone = omega (arith, none, ap (λ (u : Found). u.summary.undone) t, counts, few_keys, g.undone);
+        appended = omega (arith, none, ap (λ (u : Found). u.summary.appended) t, counts, few_keys, g.appended);
       }
 
   set_there : p.in_word < 32 → take (suc p.in_word) (set keys p.in_word x.key) ≡ ks ++ (x.key ∷ [])
@@ -133,7 +131,7 @@ module _ {s out₀ : List ℕ} {at₀ : ℕ} {p₀ : Progress} {out : List ℕ} 
       take-suc (set keys n x.key) n 0 (omega (arith, length-set keys n x.key)) ∙
       (λ i. take-set-le n keys n x.key (omega arith) i ++ (get_or-set_same keys n x.key 0 there i ∷ []))
 
-  after_key : is_space x.key ≡ false → (total' : Total) (keys' out' : List ℕ) → total' ≡ total_if false p.mode ks total → keys' ≡ keys_unless false keys p.in_word x.key → out' ≡ output_if false p.mode ks total out
+  after_key : is_space x.key ≡ false → (total' : Found) (keys' out' : List ℕ) → total' ≡ total_if false p.mode ks total → keys' ≡ keys_unless false keys p.in_word x.key → out' ≡ output_if false p.mode ks total out
       → Going s out₀ at₀ p₀ out' next (onward p x) keys' total'
   after_key e total' keys' out' t k o =
       let more : (onward p x).in_word ≡ suc p.in_word = ap (λ (b : Bool). in_word b p.in_word) e in
@@ -153,16 +151,16 @@ module _ {s out₀ : List ℕ} {at₀ : ℕ} {p₀ : Progress} {out : List ℕ} 
         allowed = subst (λ (l : List ℕ). T (all (is_key p.mode) l)) (sym now_keys) (all_and (is_key p.mode) ks x.key g.allowed (is_allowed p x fine e));
         short = fine.short;
         inside = within;
-        written = omega (arith, more, ap (λ (u : Total). u.written) t, g.written);
-        words = omega (arith, ap (λ (u : Total). u.words) t, g.words);
-        kept = omega (arith, ap (λ (u : Total). u.kept) t, g.kept);
-        restored = omega (arith, ap (λ (u : Total). u.restored) t, g.restored);
-        acted = omega (arith, more, ap (λ (u : Total). u.acted) t, g.acted);
-        undone = omega (arith, more, ap (λ (u : Total). u.undone) t, g.undone);
-        appended = omega (arith, more, ap (λ (u : Total). u.appended) t, g.appended);
+        written = omega (arith, more, ap (λ (u : Found). u.written) t, g.written);
+        words = omega (arith, ap (λ (u : Found). u.summary.words) t, g.words);
+        kept = omega (arith, ap (λ (u : Found). u.summary.kept) t, g.kept);
+        restored = omega (arith, ap (λ (u : Found). u.summary.restored) t, g.restored);
+        acted = omega (arith, more, ap (λ (u : Found). u.summary.acted) t, g.acted);
+        undone = omega (arith, more, ap (λ (u : Found). u.summary.undone) t, g.undone);
+        appended = omega (arith, more, ap (λ (u : Found). u.summary.appended) t, g.appended);
       }
 
-  pub one_more : {total' : Total} {keys' out' : List ℕ} → total' ≡ total_if (is_space x.key) p.mode ks total → keys' ≡ keys_unless (is_space x.key) keys p.in_word x.key → out' ≡ output_if (is_space x.key) p.mode ks total out
+  pub one_more : {total' : Found} {keys' out' : List ℕ} → total' ≡ total_if (is_space x.key) p.mode ks total → keys' ≡ keys_unless (is_space x.key) keys p.in_word x.key → out' ≡ output_if (is_space x.key) p.mode ks total out
       → {q : Progress} → q ≡ onward p x → Going s out₀ at₀ p₀ out' next q keys' total'
   one_more {total'} {keys'} {out'} t k o moved = subst (λ (q : Progress). Going s out₀ at₀ p₀ out' next q keys' total') (sym moved) (go (is_space x.key) refl t k o)
     where
@@ -171,8 +169,8 @@ module _ {s out₀ : List ℕ} {at₀ : ℕ} {p₀ : Progress} {out : List ℕ} 
       go false e t k o = after_key e total' keys' out' t k o
 
 -- at the start: behind the mode nothing is pressed yet
-module _ (s out₀ : List ℕ) (b : Begun) (e : begin s ≡ Begins b) where
-  pub started : {total : Total} → total ≡ total_of nothing → Going s out₀ b.at b.progress out₀ b.at b.progress (replicate 32 0) total
+module _ (s out₀ : List ℕ) (b : Begun) (e : begin s ≡ Ok b) where
+  pub started : {total : Found} → total ≡ total_of nothing → Going s out₀ b.at b.progress out₀ b.at b.progress (replicate 32 0) total
   started {total} t =
       let o = opened s b e in
       let none = ap (λ (p : Progress). p.in_word) o.none_yet_law in
@@ -188,24 +186,24 @@ module _ (s out₀ : List ℕ) (b : Begun) (e : begin s ≡ Begins b) where
         allowed = subst (λ (n : ℕ). T (all (is_key b.progress.mode) (take n (replicate 32 0)))) (sym none) tt;
         short = omega (arith, ap (λ (p : Progress). p.milliseconds) o.none_yet_law);
         inside = o.inside;
-        written = omega (arith, none, ap (λ (u : Total). u.written) t);
-        words = omega (arith, ap (λ (u : Total). u.words) t);
-        kept = omega (arith, ap (λ (u : Total). u.kept) t);
-        restored = omega (arith, ap (λ (u : Total). u.restored) t);
-        acted = omega (arith, none, ap (λ (u : Total). u.acted) t);
-        undone = omega (arith, none, ap (λ (u : Total). u.undone) t);
-        appended = omega (arith, none, ap (λ (u : Total). u.appended) t);
+        written = omega (arith, none, ap (λ (u : Found). u.written) t);
+        words = omega (arith, ap (λ (u : Found). u.summary.words) t);
+        kept = omega (arith, ap (λ (u : Found). u.summary.kept) t);
+        restored = omega (arith, ap (λ (u : Found). u.summary.restored) t);
+        acted = omega (arith, none, ap (λ (u : Found). u.summary.acted) t);
+        undone = omega (arith, none, ap (λ (u : Found). u.summary.undone) t);
+        appended = omega (arith, none, ap (λ (u : Found). u.summary.appended) t);
       }
 
   -- at the end, and where the recording is refused
-  module _ {out : List ℕ} {at : ℕ} {p : Progress} {keys : List ℕ} {total : Total} (g : Going s out₀ b.at b.progress out at p keys total) where
+  module _ {out : List ℕ} {at : ℕ} {p : Progress} {keys : List ℕ} {total : Found} (g : Going s out₀ b.at b.progress out at p keys total) where
     abbrev word : List ℕ
     word = take p.in_word keys
 
     the_whole : throughout s b ≡ outcome p.mode g.tally word p.milliseconds (rest_from s at p)
     the_whole = ap (outcome b.progress.mode nothing [] b.progress.milliseconds) (enough s (length s) (length s - b.at) b.at b.progress (omega arith) (omega arith)) ∙ sym g.same
 
-    pub broken_off : {r : Refusal} → rest_from s at p ≡ broken r → (Broken r ≡ passage_of (throughout s b)) × LinesPut (throughout s b) out₀ out
+    pub broken_off : {r : Refusal} → rest_from s at p ≡ broken r → (Err r ≡ passage_of (throughout s b)) × LinesPut (throughout s b) out₀ out
     broken_off r =
         let q = the_whole ∙ ap (outcome p.mode g.tally word p.milliseconds) r in
         (sym (ap passage_of q), subst (λ (o : Outcome). LinesPut o out₀ out) (sym q) tt)
@@ -215,10 +213,10 @@ module _ (s out₀ : List ℕ) (b : Begun) (e : begin s ≡ Begins b) where
     last_put (k ∷ ks) {out'} o h =
         subst (λ (l : List ℕ). length (g.tally.text ++ l) ≤ length out₀ → out' ≡ at_front (g.tally.text ++ l) out₀) (sym (append-nil (committed_line (typed p.mode (k ∷ ks))))) (line_put g (committed_line (typed p.mode (k ∷ ks))) o) h
 
-    pub all_passed : rest_from s at p ≡ presses [] → {ks : List ℕ} → ks ≡ word → {total' : Total} {out' : List ℕ} {f : Found} → total' ≡ total_if (some_keys ks) p.mode ks total → out' ≡ output_if (some_keys ks) p.mode ks total out
-        → f ≡ found_of total' p.milliseconds → (Passed f ≡ passage_of (throughout s b)) × LinesPut (throughout s b) out₀ out'
+    pub all_passed : rest_from s at p ≡ presses [] → {ks : List ℕ} → ks ≡ word → {total' : Found} {out' : List ℕ} {f : Found} → total' ≡ total_if (some_keys ks) p.mode ks total → out' ≡ output_if (some_keys ks) p.mode ks total out
+        → f ≡ found_of total' p.milliseconds → (Ok f ≡ passage_of (throughout s b)) × LinesPut (throughout s b) out₀ out'
     all_passed e {ks} k {total'} {out'} {f} t o d =
         let time : p.milliseconds + 0 ≡ p.milliseconds = omega arith in
         let q = the_whole ∙ ap (outcome p.mode g.tally word p.milliseconds) e ∙ (λ i. finished (together g.tally (of_words p.mode (last_word (sym k i)))) (time i)) in
         let all = t ∙ ap (total_if (some_keys ks) p.mode ks) g.is_total ∙ with_last g.tally p.mode ks in
-        (ap Passed (d ∙ ap (λ (u : Total). found_of u p.milliseconds) all) ∙ sym (ap passage_of q), subst (λ (u : Outcome). LinesPut u out₀ out') (sym q) (last_put ks o))
+        (ap Ok (d ∙ ap (λ (u : Found). found_of u p.milliseconds) all) ∙ sym (ap passage_of q), subst (λ (u : Outcome). LinesPut u out₀ out') (sym q) (last_put ks o))

@@ -8,9 +8,9 @@ use lib.ListN.{length-append}
 use Rattle.rules.specs.WhatComesBack.{typed}
 use Rattle.recording.specs.Recordings.{is_space, Reading, broken, presses, before}
 use Rattle.recording.specs.declared.KeyPress.{KeyPress}
-use Rattle.replay.specs.Replays.{last_word, words_from, Tally, of_word, nothing, together, of_words, milliseconds, done_of}
+use Rattle.replay.specs.Replays.{last_word, words_from, Tally, of_word, nothing, together, of_words, milliseconds, summary, done_of}
 use Rattle.replay.specs.Passes.{total_of, finished, outcome, with_done, some_keys, total_if}
-use Rattle.replay.specs.declared.Total.{Total}
+use Rattle.replay.specs.declared.Found.{Found}
 
 tallied : {a a' : List ℕ} {b b' c c' d d' e e' f f' g g' : ℕ} → a ≡ a' → b ≡ b' → c ≡ c' → d ≡ d' → e ≡ e' → f ≡ f' → g ≡ g' →
     ◌≡◌ {A = Tally} (record { text = a; words = b; kept = c; restored = d; acted = e; undone = f; appended = g }) (record { text = a'; words = b'; kept = c'; restored = d'; acted = e'; undone = f'; appended = g' })
@@ -30,7 +30,7 @@ pub with_one : (t : Tally) (m : ℕ) (ks : List ℕ) → with_done (total_of t) 
 with_one t m ks =
     let u = together t (of_word (typed m ks)) in
     let long = sym (length-append t.text (of_word (typed m ks)).text) in
-    ap (λ (n : ℕ). let w : Total = record { written = n; words = u.words; kept = u.kept; restored = u.restored; acted = u.acted; undone = u.undone; appended = u.appended } in w) long
+    ap (λ (n : ℕ). let f : Found = record { written = n; summary = summary u 0 } in f) long
 
 -- and of the last
 pub with_last : (t : Tally) (m : ℕ) (ks : List ℕ) → total_if (some_keys ks) m ks (total_of t) ≡ total_of (together t (of_words m (last_word ks)))

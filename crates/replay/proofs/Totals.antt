@@ -13,20 +13,11 @@ use Rattle.rules.specs.declared.Decision.{Decision}
 use Rattle.rules.specs.declared.Decision.TheVariants.{Keep, Restore}
 use Rattle.replay.specs.Replays.{committed_line, if_kept, if_restored, done_of}
 use Rattle.replay.specs.Passes.{with_done, line_if, line_at, some_keys, total_if, output_if}
-use Rattle.replay.specs.declared.Total.{Total}
-use Rattle.replay.specs.declared.WordDone.{WordDone}
+use Rattle.replay.specs.declared.Found.{Found}
 
 pub one_or_none : (d : Decision) → (if_kept d ≤ 1) × (if_restored d ≤ 1)
 one_or_none Keep = (omega arith, omega arith)
 one_or_none Restore = (omega arith, omega arith)
-
--- the total with its two counts of decisions
-pub raised : (t : Total) (w : WordDone) {k r : ℕ} → k ≡ if_kept w.decision → r ≡ if_restored w.decision →
-    ◌≡◌ {A = Total}
-    (record { written = t.written + w.bytes; words = t.words + 1; kept = t.kept + k; restored = t.restored + r; acted = t.acted + w.acted; undone = t.undone + w.undone; appended = t.appended + w.appended })
-    (with_done t w)
-raised t w p q =
-    λ i. record { written = t.written + w.bytes; words = t.words + 1; kept = t.kept + p i; restored = t.restored + q i; acted = t.acted + w.acted; undone = t.undone + w.undone; appended = t.appended + w.appended }
 
 module _ (at : ℕ) (line out : List ℕ) where
   pub no_room : length out < at + length line → out ≡ line_at at line out
@@ -46,14 +37,14 @@ module _ (at : ℕ) (line out : List ℕ) where
       go false e = refl
 
 -- a word that is committed or not, by its test
-module _ {b : Bool} (m : ℕ) (ks : List ℕ) (t : Total) (out : List ℕ) where
+module _ {b : Bool} (m : ℕ) (ks : List ℕ) (t : Found) (out : List ℕ) where
   pub not_added : b ≡ false → (t ≡ total_if b m ks t) × (out ≡ output_if b m ks t out)
   not_added e = (λ i. total_if (sym e i) m ks t, λ i. output_if (sym e i) m ks t out)
 
-  pub added : {ls : List ℕ} {r : Total} {after : List ℕ} → b ≡ true → ls ≡ ks → r ≡ with_done t (done_of (typed m ls)) → after ≡ line_at t.written (committed_line (typed m ls)) out → (r ≡ total_if b m ks t) × (after ≡ output_if b m ks t out)
+  pub added : {ls : List ℕ} {r : Found} {after : List ℕ} → b ≡ true → ls ≡ ks → r ≡ with_done t (done_of (typed m ls)) → after ≡ line_at t.written (committed_line (typed m ls)) out → (r ≡ total_if b m ks t) × (after ≡ output_if b m ks t out)
   added e k p q = (p ∙ (λ i. total_if (sym e i) m (k i) t), q ∙ (λ i. output_if (sym e i) m (k i) t out))
 
-pub output_long : (b : Bool) (m : ℕ) (ks : List ℕ) (t : Total) (out : List ℕ) → length (output_if b m ks t out) ≡ length out
+pub output_long : (b : Bool) (m : ℕ) (ks : List ℕ) (t : Found) (out : List ℕ) → length (output_if b m ks t out) ≡ length out
 output_long true m ks t out = as_long t.written (committed_line (typed m ks)) out
 output_long false m ks t out = refl
 

@@ -1,4 +1,5 @@
 -- A word of allowed keys: it is typed, in range, its line is at most three bytes a key and a newline, and its counts are no more than its keys.
+use Rattle.std.specs.Prelude.{Ok}
 use mathlib.Core.Path.{◌≡◌, sym, ap, subst, ◌∙◌}
 use mathlib.Core.Bool.{Bool, not, false}
 use mathlib.Core.List.{List, [], ◌∷◌}
@@ -14,7 +15,6 @@ use Rattle.rules.specs.Refusals.{all, is_mode, out_of_range}
 use Rattle.rules.specs.WhatComesBack.{typed, type_all}
 use Rattle.rules.specs.Drill.{newline}
 use Rattle.rules.specs.declared.TypeAll.{TypeAll}
-use Rattle.rules.specs.declared.TypeAnswer.TheVariants.{AllTyped}
 use Rattle.rules.specs.declared.Decision.{Decision}
 use Rattle.rules.specs.declared.Decision.TheVariants.{Keep, Restore}
 use Rattle.rules.proofs.Tests.{is_true}
@@ -26,10 +26,10 @@ use Rattle.rules.proofs.NotRefused.{typed_in_range, typed_word}
 use Rattle.word.proofs.Answers.{all_typed}
 use Rattle.replay.specs.Replays.{committed_line}
 use Rattle.replay.specs.Passes.{Fits, FitsKeys}
-use Rattle.replay.specs.declared.Total.{Total}
+use Rattle.replay.specs.declared.Found.{Found}
 
 module _ (m : ℕ) (ks : List ℕ) (mode : T (is_mode m)) (few : length ks ≤ most_keys) (allowed : T (all (is_key m) ks)) where
-  accepted : (type_all m ks).answer ≡ AllTyped
+  accepted : (type_all m ks).answer ≡ Ok tt
   accepted = ap (λ (x : TypeAll). x.answer) (all_typed m ks (ap not (is_true (is_mode m) mode)) few allowed)
 
   pub word_in_range : out_of_range (type_all m ks).word ≡ false
@@ -61,7 +61,7 @@ module _ (m : ℕ) (ks : List ℕ) (mode : T (is_mode m)) (few : length ks ≤ m
   its_counts = counts_add_up m ks
 
   -- so a total that fits with so many keys fits with the word
-  pub fits_word : (t : Total) → FitsKeys t (length ks) → Fits t (length (committed_line (typed m ks))) (typed m ks).acted (typed m ks).undone (typed m ks).appended
+  pub fits_word : (t : Found) → FitsKeys t (length ks) → Fits t (length (committed_line (typed m ks))) (typed m ks).acted (typed m ks).undone (typed m ks).appended
   fits_word t f = record {
     written = omega (arith, f.written, line_long);
     words = f.words;

@@ -1,6 +1,5 @@
 -- 24 Replay (docs/RULES.md): the words, what is committed of each, the summary, and what comes back.
-use Rattle.std.specs.Prelude.{true, false, List, [], ◌∷◌, ◌++◌, ℕ, ◌+◌, length}
-use Rattle.std.proofs.Math.Option.{Option, none, some}
+use Rattle.std.specs.Prelude.{true, false, List, [], ◌∷◌, ◌++◌, ℕ, ◌+◌, length, Option, Some, None, Result, Ok, Err}
 use Rattle.rules.specs.TheWord.{Typed, at_front}
 use Rattle.rules.specs.CodePoints.{shown}
 use Rattle.rules.specs.Decision.{decision, handed_back}
@@ -10,18 +9,12 @@ use Rattle.rules.specs.Drill.{newline}
 use Rattle.rules.specs.declared.Refusal.{Refusal}
 use Rattle.rules.specs.declared.Decision.{Decision}
 use Rattle.rules.specs.declared.Decision.TheVariants.{Keep, Restore}
-use Rattle.rules.specs.declared.WriteAnswer.{WriteAnswer}
-use Rattle.rules.specs.declared.WriteAnswer.TheVariants.{Wrote}
-use Rattle.rules.specs.declared.WriteAnswer.TheVariants.{Refused as WriteRefused}
 use Rattle.output.specs.Front.{put}
 use Rattle.recording.specs.Recordings.{is_space, Recorded, refused_at, drill, recorded}
 use Rattle.recording.specs.declared.KeyPress.{KeyPress}
 use Rattle.replay.specs.declared.Summary.{Summary}
 use Rattle.replay.specs.declared.ReplayAnswer.{ReplayAnswer}
 use Rattle.replay.specs.declared.WordDone.{WordDone}
-use Rattle.replay.specs.declared.WordAnswer.{WordAnswer}
-use Rattle.replay.specs.declared.WordAnswer.TheVariants.{Committed}
-use Rattle.replay.specs.declared.WordAnswer.TheVariants.{Refused as WordRefused}
 
 -- 24.1 The words of a drill are the keys between its spaces, some or none, and those after the last space, if there
 -- are any.
@@ -96,9 +89,9 @@ pub record Replayed : Type 0 where
   pub result : ReplayAnswer
   pub output : List ℕ
 
-abbrev pub summary_if : WriteAnswer → Summary → Summary
-summary_if (Wrote n) s = s
-summary_if (WriteRefused r) s = summary nothing 0
+abbrev pub summary_if : Result ℕ Refusal → Summary → Summary
+summary_if (Ok n) s = s
+summary_if (Err r) s = summary nothing 0
 
 abbrev pub answered_by : Written → Summary → Replayed
 answered_by w s = record { result = record { answer = w.answer; summary = summary_if w.answer s }; output = w.output }
@@ -107,7 +100,7 @@ abbrev pub of_drill : ℕ → List KeyPress → List ℕ → Replayed
 of_drill mode xs out = answered_by (put (of_words mode (words_from [] xs)).text out) (summary (of_words mode (words_from [] xs)) (milliseconds xs))
 
 abbrev pub refused_replay : Refusal → List ℕ → Replayed
-refused_replay r out = record { result = record { answer = WriteRefused r; summary = summary nothing 0 }; output = out }
+refused_replay r out = record { result = record { answer = Err r; summary = summary nothing 0 }; output = out }
 
 abbrev pub of_recorded : Recorded → List ℕ → Replayed
 of_recorded (refused_at r) out = refused_replay r out
@@ -119,15 +112,15 @@ replayed s out = of_recorded (recorded s) out
 -- 24.8 One word by itself gives its line, the decision and the three counts. It is refused as a list is that is
 -- typed.
 pub record WordReplayed : Type 0 where
-  pub answer : WordAnswer
+  pub answer : Result WordDone Refusal
   pub line : List ℕ
 
 abbrev pub done_of : Typed → WordDone
 done_of z = record { bytes = length (committed_line z); decision = decision z; acted = z.acted; undone = z.undone; appended = z.appended }
 
 abbrev pub word_or : Option Refusal → ℕ → List ℕ → List ℕ → WordReplayed
-word_or (some r) mode ks line = record { answer = WordRefused r; line = line }
-word_or none mode ks line = record { answer = Committed (done_of (typed mode ks)); line = at_front (committed_line (typed mode ks)) line }
+word_or (Some r) mode ks line = record { answer = Err r; line = line }
+word_or None mode ks line = record { answer = Ok (done_of (typed mode ks)); line = at_front (committed_line (typed mode ks)) line }
 
 unfoldable pub word_replayed : ℕ → List ℕ → List ℕ → WordReplayed
 word_replayed mode ks line = word_or (refusal (type_call mode ks)) mode ks line

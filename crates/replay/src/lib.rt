@@ -9,15 +9,14 @@ ghost use Rattle.rules.specs.Refusals.{all, is_mode, out_of_range};
 ghost use Rattle.rules.specs.WhatComesBack.{typed};
 ghost use Rattle.show.specs.Filling.{room_text};
 ghost use Rattle.recording.specs.Recordings.{is_space, begin};
-ghost use Rattle.recording.specs.declared.BeginAnswer.TheVariants.{Begins};
-ghost use Rattle.replay.specs.Replays.{if_kept as if_kept_of, if_restored as if_restored_of, committed_line, nothing, done_of, word_replayed, refused_replay, replayed};
-ghost use Rattle.replay.specs.Passes.{total_of, throughout, passage_of, LinesPut, with_done, Fits, FitsKeys, line_at, some_keys, total_if, keys_unless, output_if, found_of};
+ghost use Rattle.replay.specs.Replays.{committed_line, done_of, word_replayed, replayed};
+ghost use Rattle.replay.specs.Passes.{throughout, passage_of, told, LinesPut, with_done, Fits, FitsKeys, line_at, some_keys, total_if, keys_unless, output_if};
 
-use recording::{BeginAnswer, Begun, Press, SPACE};
-use rules::{Decision, Refusal, TypeAnswer, Word, WriteAnswer};
+use recording::{Begun, Progress, SPACE};
+use rules::{Decision, Refusal, Word, refuse};
 
 // The words, those kept and restored, the keys that acted, undid and were appended, and all milliseconds.
-#[derive(Clone, Copy)]
+#[derive(Clone, Copy, Default)]
 pub struct Summary {
     pub words: usize,
     pub kept: usize,
@@ -30,7 +29,7 @@ pub struct Summary {
 
 #[derive(Clone, Copy)]
 pub struct ReplayAnswer {
-    pub answer: WriteAnswer,
+    pub answer: Result<usize, Refusal>,
     pub summary: Summary,
 }
 
@@ -44,40 +43,16 @@ pub struct WordDone {
     pub appended: u8,
 }
 
-#[derive(Clone, Copy)]
-pub enum WordAnswer {
-    Committed(WordDone),
-    Refused(Refusal),
-}
-
 // The most that a word's line has: a text of 96 bytes, and a newline.
 pub const LINE: usize = 97;
 
 const NEWLINE: u8 = b'\n';
 
-// The words so far: the bytes of their lines, and the counts.
-#[derive(Clone, Copy)]
-struct Total {
-    written: usize,
-    words: usize,
-    kept: usize,
-    restored: usize,
-    acted: usize,
-    undone: usize,
-    appended: usize,
-}
-
-// What a pass over the whole recording finds.
-#[derive(Clone, Copy)]
+// What a pass finds: the bytes of the words' lines, and the summary, of which the milliseconds are known at the end.
+#[derive(Clone, Copy, Default)]
 struct Found {
     written: usize,
     summary: Summary,
-}
-
-#[derive(Clone, Copy)]
-enum Passage {
-    Passed(Found),
-    Broken(Refusal),
 }
 
 // What is committed, the shown text of the letters or the keys, made at the front of the line itself: it has room for any text.
@@ -94,7 +69,7 @@ fn committed_text(
     match decision {
         Decision::Keep => show::in_room(letters, tone, line),
         Decision::Restore => {
-            line[0..keys.len()].copy_from_slice(keys);
+            line[..keys.len()].copy_from_slice(keys);
             keys.len()
         }
     }
@@ -105,19 +80,16 @@ fn line_of(w: Word, line: &mut [u8; LINE]) -> WordDone
     requires { out_of_range w ≡ false }
     ensures { (result ≡ done_of (word_of w)) × (line.new ≡ at_front (committed_line (word_of w)) line.old) }
 {
-    let all = w.letters;
-    let count = w.count as usize;
-    let letters = &all[0..count];
+    let letters = &w.letters[..w.count as usize];
     let verdict = syllable::verdict(letters, w.tone);
     let untouched = (w.acted == 0) & (w.undone == 0);
     let decision = word::decided(letters, untouched, w.closed, verdict);
-    let keys = w.keys;
-    let typed = w.typed as usize;
-    let n = committed_text(decision, letters, w.tone, &keys[0..typed], line);
+    let keys = &w.keys[..w.typed as usize];
+    let n = committed_text(decision, letters, w.tone, keys, line);
     line[n] = NEWLINE;
     WordDone {
         bytes: n + 1,
-        decision: decision,
+        decision,
         acted: w.acted,
         undone: w.undone,
         appended: w.appended,
@@ -125,220 +97,117 @@ fn line_of(w: Word, line: &mut [u8; LINE]) -> WordDone
 }
 
 // One word typed and committed: its line at the front of `line`, a newline behind it. Refusals: 1, 2, 3; the line is then as it was.
-pub fn commit_word(mode: u8, keys: &[u8], line: &mut [u8; LINE]) -> WordAnswer
+pub fn commit_word(mode: u8, keys: &[u8], line: &mut [u8; LINE]) -> Result<WordDone, Refusal>
     ensures { (result ≡ (word_replayed mode keys.now line.old).answer) × (line.new ≡ (word_replayed mode keys.now line.old).line) }
 {
     let all = word::type_all(mode, keys);
-    let answer = all.answer;
-    if let TypeAnswer::Refused(refusal) = answer {
-        return WordAnswer::Refused(refusal);
-    }
-    WordAnswer::Committed(line_of(all.word, line))
-}
-
-fn nothing_yet() -> Total
-    ensures { result ≡ total_of nothing }
-{
-    Total {
-        written: 0,
-        words: 0,
-        kept: 0,
-        restored: 0,
-        acted: 0,
-        undone: 0,
-        appended: 0,
-    }
-}
-
-fn if_kept(decision: Decision) -> usize
-    ensures { result ≡ if_kept_of decision }
-{
-    match decision {
-        Decision::Keep => 1,
-        Decision::Restore => 0,
-    }
-}
-
-fn if_restored(decision: Decision) -> usize
-    ensures { result ≡ if_restored_of decision }
-{
-    match decision {
-        Decision::Keep => 0,
-        Decision::Restore => 1,
-    }
-}
-
-// The words so far, and one more.
-fn with_word(total: Total, word: WordDone) -> Total
-    requires { Fits total word.bytes word.acted word.undone word.appended }
-    ensures { result ≡ with_done total word }
-{
-    let decision = word.decision;
-    Total {
-        written: total.written + word.bytes,
-        words: total.words + 1,
-        kept: total.kept + if_kept(decision),
-        restored: total.restored + if_restored(decision),
-        acted: total.acted + (word.acted as usize),
-        undone: total.undone + (word.undone as usize),
-        appended: total.appended + (word.appended as usize),
-    }
+    all.answer?;
+    Ok(line_of(all.word, line))
 }
 
 // A line at a place of the output, where there is room for it; else nothing.
 fn put_line(line: &[u8], out: &mut [u8], at: usize)
     ensures { out.new ≡ line_at at line.now out.old }
 {
-    if out.len() < at {
-        return;
+    if at <= out.len() && line.len() <= out.len() - at {
+        out[at..at + line.len()].copy_from_slice(line);
     }
-    if out.len() - at < line.len() {
-        return;
-    }
-    out[at..at + line.len()].copy_from_slice(line);
 }
 
-// A word of allowed keys: typed, committed, and counted.
-fn add_word(mode: u8, keys: &[u8], total: Total, out: &mut [u8]) -> Total
-    requires { T (is_mode mode) × (length keys.now ≤ 32) × T (all (is_key mode) keys.now) × FitsKeys total (length keys.now) }
-    ensures { (result ≡ with_done total (done_of (typed mode keys.now))) × (out.new ≡ line_at total.written (committed_line (typed mode keys.now)) out.old) }
-{
-    let all = word::type_all(mode, keys);
-    let mut line = [0; LINE];
-    let word = line_of(all.word, &mut line);
-    let n = word.bytes;
-    put_line(&line[0..n], out, total.written);
-    with_word(total, word)
+impl Found {
+    // One word more.
+    fn add(&mut self, word: WordDone)
+        requires { Fits self.old word.bytes word.acted word.undone word.appended }
+        ensures { self.new ≡ with_done self.old word }
+    {
+        self.written += word.bytes;
+        let summary = &mut self.summary;
+        summary.words += 1;
+        match word.decision {
+            Decision::Keep => summary.kept += 1,
+            Decision::Restore => summary.restored += 1,
+        }
+        summary.acted += word.acted as usize;
+        summary.undone += word.undone as usize;
+        summary.appended += word.appended as usize;
+    }
+
+    // A word of allowed keys: typed, committed, and counted.
+    fn add_word(&mut self, mode: u8, keys: &[u8], out: &mut [u8])
+        requires { T (is_mode mode) × (length keys.now ≤ 32) × T (all (is_key mode) keys.now) × FitsKeys self.old (length keys.now) }
+        ensures { (self.new ≡ with_done self.old (done_of (typed mode keys.now))) × (out.new ≡ line_at self.old.written (committed_line (typed mode keys.now)) out.old) }
+    {
+        let all = word::type_all(mode, keys);
+        let mut line = [0; LINE];
+        let word = line_of(all.word, &mut line);
+        put_line(&line[..word.bytes], out, self.written);
+        self.add(word);
+    }
+
+    // What is left at the end: the keys after the last space, if there are any.
+    fn add_last(&mut self, mode: u8, keys: &[u8], out: &mut [u8])
+        requires { T (is_mode mode) × (length keys.now ≤ 32) × T (all (is_key mode) keys.now) × FitsKeys self.old (length keys.now) }
+        ensures { (self.new ≡ total_if (some_keys keys.now) mode keys.now self.old) × (out.new ≡ output_if (some_keys keys.now) mode keys.now self.old out.old) }
+    {
+        if keys.is_empty() {
+            return;
+        }
+        self.add_word(mode, keys, out);
+    }
 }
 
 // A press more: a key goes to those of the word that has begun, and a space commits it.
 fn press(
-    mode: u8,
-    keys: &mut [u8; Word::KEYS],
-    n: usize,
+    progress: Progress,
     key: u8,
-    total: Total,
+    keys: &mut [u8; Word::KEYS],
+    found: &mut Found,
     out: &mut [u8],
-) -> Total
-    requires { T (is_mode mode) × (n ≤ 32) × T (all (is_key mode) (take n keys.old)) × FitsKeys total n × ((key ≡ 32 → ⊥) → n < 32) }
-    ensures { (result ≡ total_if (is_space key) mode (take n keys.old) total) × (keys.new ≡ keys_unless (is_space key) keys.old n key) × (out.new ≡ output_if (is_space key) mode (take n keys.old) total out.old) }
+)
+    requires { T (is_mode progress.mode) × (progress.in_word ≤ 32) × T (all (is_key progress.mode) (take progress.in_word keys.old)) × FitsKeys found.old progress.in_word × ((key ≡ 32 → ⊥) → progress.in_word < 32) }
+    ensures { (found.new ≡ total_if (is_space key) progress.mode (take progress.in_word keys.old) found.old) × (keys.new ≡ keys_unless (is_space key) keys.old progress.in_word key) × (out.new ≡ output_if (is_space key) progress.mode (take progress.in_word keys.old) found.old out.old) }
 {
+    let n = progress.in_word;
     if key != SPACE {
         keys[n] = key;
-        return total;
+        return;
     }
-    let word = &keys[..];
-    add_word(mode, &word[0..n], total, out)
-}
-
-fn summed(total: Total, milliseconds: u64) -> Found
-    requires { milliseconds < 4294967296 }
-    ensures { result ≡ found_of total milliseconds }
-{
-    Found {
-        written: total.written,
-        summary: Summary {
-            words: total.words,
-            kept: total.kept,
-            restored: total.restored,
-            acted: total.acted,
-            undone: total.undone,
-            appended: total.appended,
-            milliseconds: milliseconds as u32,
-        },
-    }
-}
-
-// What is left at the end: the keys after the last space, if there are any.
-fn add_last(mode: u8, keys: &[u8], total: Total, out: &mut [u8]) -> Total
-    requires { T (is_mode mode) × (length keys.now ≤ 32) × T (all (is_key mode) keys.now) × FitsKeys total (length keys.now) }
-    ensures { (result ≡ total_if (some_keys keys.now) mode keys.now total) × (out.new ≡ output_if (some_keys keys.now) mode keys.now total out.old) }
-{
-    if keys.len() == 0 {
-        return total;
-    }
-    add_word(mode, keys, total, out)
+    found.add_word(progress.mode, &keys[..n], out);
 }
 
 // All of a recording behind its mode, each line put where there is room for it.
-fn pass(recording: &[u8], begun: Begun, out: &mut [u8]) -> Passage
-    requires { begin recording.now ≡ Begins begun }
+fn pass(recording: &[u8], begun: Begun, out: &mut [u8]) -> Result<Found, Refusal>
+    requires { begin recording.now ≡ Ok begun }
     ensures { (result ≡ passage_of (throughout recording.now begun)) × LinesPut (throughout recording.now begun) out.old out.new }
 {
     let mut at = begun.at;
     let mut progress = begun.progress;
     let mut keys = [0; Word::KEYS];
-    let mut total = nothing_yet();
+    let mut found = Found::default();
     loop {
         let step = recording::step_at(recording, at, progress);
-        let met = step.press;
-        match met {
-            Press::Pressed(x) => {
-                total = press(
-                    progress.mode,
-                    &mut keys,
-                    progress.in_word,
-                    x.key,
-                    total,
-                    out,
-                );
-                at = step.at;
-                progress = step.progress;
-            }
-            Press::End => {
-                break;
-            }
-            Press::Refused(refusal) => {
-                return Passage::Broken(refusal);
-            }
-        }
+        let Some(x) = step.press? else {
+            break;
+        };
+        press(progress, x.key, &mut keys, &mut found, out);
+        at = step.at;
+        progress = step.progress;
     }
-    let n = progress.in_word;
-    total = add_last(progress.mode, &keys[0..n], total, out);
-    Passage::Passed(summed(total, progress.milliseconds))
-}
-
-fn refused(refusal: Refusal) -> ReplayAnswer
-    ensures { result ≡ (refused_replay refusal []).result }
-{
-    ReplayAnswer {
-        answer: WriteAnswer::Refused(refusal),
-        summary: Summary {
-            words: 0,
-            kept: 0,
-            restored: 0,
-            acted: 0,
-            undone: 0,
-            appended: 0,
-            milliseconds: 0,
-        },
-    }
+    found.add_last(progress.mode, &keys[..progress.in_word], out);
+    found.summary.milliseconds = progress.milliseconds as u32;
+    Ok(found)
 }
 
 // The first pass writes nothing: it finds what is refused, the bytes needed and the summary. Only then is the output touched.
-fn replay_from(recording: &[u8], begun: Begun, out: &mut [u8]) -> ReplayAnswer
-    requires { begin recording.now ≡ Begins begun }
-    ensures { (result ≡ (replayed recording.now out.old).result) × (out.new ≡ (replayed recording.now out.old).output) }
+fn played(recording: &[u8], out: &mut [u8]) -> Result<Found, Refusal>
+    ensures { (told result ≡ (replayed recording.now out.old).result) × (out.new ≡ (replayed recording.now out.old).output) }
 {
-    let first = pass(recording, begun, &mut out[0..0]);
-    match first {
-        Passage::Broken(refusal) => refused(refusal),
-        Passage::Passed(found) => {
-            let needed = found.written;
-            if out.len() < needed {
-                return refused(Refusal {
-                    number: 4,
-                    value: needed,
-                });
-            }
-            pass(recording, begun, out);
-            let summary = found.summary;
-            ReplayAnswer {
-                answer: WriteAnswer::Wrote(needed),
-                summary: summary,
-            }
-        }
+    let begun = recording::begin(recording)?;
+    let found = pass(recording, begun, &mut out[..0])?;
+    if out.len() < found.written {
+        return refuse(4, found.written);
     }
+    pass(recording, begun, out)
 }
 
 // The committed words of a recording at the front of the output, each with a newline, and the summary.
@@ -346,9 +215,14 @@ fn replay_from(recording: &[u8], begun: Begun, out: &mut [u8]) -> ReplayAnswer
 pub fn replay(recording: &[u8], out: &mut [u8]) -> ReplayAnswer
     ensures { (result ≡ (replayed recording.now out.old).result) × (out.new ≡ (replayed recording.now out.old).output) }
 {
-    let mode = recording::begin(recording);
-    match mode {
-        BeginAnswer::Refused(refusal) => refused(refusal),
-        BeginAnswer::Begins(begun) => replay_from(recording, begun, out),
+    match played(recording, out) {
+        Ok(found) => ReplayAnswer {
+            answer: Ok(found.written),
+            summary: found.summary,
+        },
+        Err(refusal) => ReplayAnswer {
+            answer: Err(refusal),
+            summary: Summary::default(),
+        },
     }
 }

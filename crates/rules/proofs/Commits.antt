@@ -1,8 +1,8 @@
 -- Commit: of the text that the keys show it is never refused; and it hands back these keys, or a shown text with a reason to keep it.
+use Rattle.std.specs.Prelude.{Option, Some, None, Ok}
 use mathlib.Core.Path.{◌≡◌, refl, sym, ap, ap₂, subst}
 use mathlib.Core.Bool.{Bool, true, false, ◌&&◌}
 use mathlib.Core.List.{List, [], ◌∷◌}
-use mathlib.Core.Option.{Option, none, some}
 use Prim.Native.Nat.{ℕ, ◌+◌, ◌≤◌}
 use native.Mathlib.Omega.{arith}
 use lib.Dec.{T, eqb, eqb→eq}
@@ -17,7 +17,6 @@ use Rattle.rules.specs.Refusals.{all, is_mode, same_bytes, table, refusal, NoneH
 use Rattle.rules.specs.WhatComesBack.{typed, commit_call, commit_or, commit, granted_or, commit_answer}
 use Rattle.rules.specs.HandedBack.{KeptSince, valid, closed, with_đ, untouched, HandedBack, the_keys, the_text}
 use Rattle.rules.specs.declared.Refusal.{Refusal}
-use Rattle.rules.specs.declared.CommitAnswer.TheVariants.{Granted}
 use Rattle.rules.proofs.Tests.{either}
 use Rattle.rules.proofs.Range.{not_not, twice, not_over, in_range}
 use Rattle.rules.proofs.Refused.{refusal_none}
@@ -37,7 +36,7 @@ same_bytes_law (b ∷ bs) (c ∷ cs) t =
     ap₂ (λ (x : ℕ) (xs : List ℕ). x ∷ xs) (eqb→eq b c (and_l (eqb b c) (same_bytes bs cs) t)) (same_bytes_law bs cs (and_r (eqb b c) (same_bytes bs cs) t))
 
 -- The text that accepted keys show is granted.
-pub shown_is_granted : (m : ℕ) (ks : List ℕ) → T (is_mode m) → length ks ≤ most_keys → T (all (is_key m) ks) → commit_answer m ks (shown (typed m ks).state) ≡ Granted
+pub shown_is_granted : (m : ℕ) (ks : List ℕ) → T (is_mode m) → length ks ≤ most_keys → T (all (is_key m) ks) → commit_answer m ks (shown (typed m ks).state) ≡ Ok tt
 unfolding commit_answer
 shown_is_granted m ks mode few keys =
     let text = shown (typed m ks).state in
@@ -63,7 +62,7 @@ text_shown m ks text (not_this a (not_this b (not_this c (not_this d (not_this e
     same_bytes_law text (shown (typed m ks).state) (not_not (same_bytes text (shown (typed m ks).state)) same)
 
 -- What commit hands back where it is granted is these keys, or the shown text of a word that is kept, with the reason.
-pub keys_or_kept_text : (m : ℕ) (ks text : List ℕ) → commit_answer m ks text ≡ Granted → HandedBack m ks (commit m ks text)
+pub keys_or_kept_text : (m : ℕ) (ks text : List ℕ) → commit_answer m ks text ≡ (Ok tt) → HandedBack m ks (commit m ks text)
 unfolding commit_answer commit
 keys_or_kept_text m ks text = go (refusal (commit_call m ks text)) refl
   where
@@ -71,6 +70,6 @@ keys_or_kept_text m ks text = go (refusal (commit_call m ks text)) refl
     chosen true e t = the_text t (kept_why (typed m ks) e)
     chosen false e t = the_keys refl
 
-    go : (o : Option Refusal) → refusal (commit_call m ks text) ≡ o → granted_or o ≡ Granted → HandedBack m ks (commit_or o m ks text)
-    go none e g = chosen (keeps (typed m ks)) refl (text_shown m ks text ((refusal_none (commit_call m ks text)).0 e))
-    go (some x) e g = let z : ◌≡◌ {A = ℕ} 0 1 = cc in absurd (omega arith)
+    go : (o : Option Refusal) → refusal (commit_call m ks text) ≡ o → granted_or o ≡ (Ok tt) → HandedBack m ks (commit_or o m ks text)
+    go None e g = chosen (keeps (typed m ks)) refl (text_shown m ks text ((refusal_none (commit_call m ks text)).0 e))
+    go (Some x) e g = let z : ◌≡◌ {A = ℕ} 0 1 = cc in absurd (omega arith)

@@ -1,4 +1,5 @@
 -- Which key made which letter, of typed words: what a key leaves of the letters and of the places of keys, whatever its role; and so `PlacesTold` of specs/KeyPlaces.antt.
+use Rattle.std.specs.Prelude.{Ok}
 use mathlib.Core.Path.{◌≡◌, refl, sym, ap, subst, ◌∙◌}
 use mathlib.Core.Bool.{Bool, true, false, not, ◌&&◌, ◌||◌}
 use mathlib.Core.List.{List, [], ◌∷◌, ◌++◌, map}
@@ -23,7 +24,6 @@ use Rattle.rules.specs.declared.Act.TheVariants.{Tone, Clear}
 use Rattle.rules.specs.declared.Role.{Role}
 use Rattle.rules.specs.declared.Role.TheVariants.{ToneRole, ShapeRole, StrokeRole, NoRole}
 use Rattle.rules.specs.declared.ToneKey.TheVariants.{SetTone, ClearTone}
-use Rattle.rules.specs.declared.TypeAnswer.TheVariants.{AllTyped}
 use Rattle.rules.proofs.Tests.{is_false}
 use Rattle.rules.proofs.Words.{bases, of_words}
 use Rattle.rules.proofs.Edits.{Reshaped, one, two, later, Puts, puts_shape, puts_stroke, Good, good_none, good_off, good, good_shape, good_stroke}
@@ -230,7 +230,7 @@ told w whole few h =
     taken_short (suc n) [] = omega arith
     taken_short (suc n) (x ∷ l) = omega (arith, taken_short n l)
 
-pub typed_told : (m : ℕ) (ks : List ℕ) → (type_all m ks).answer ≡ AllTyped → PlacesTold (type_all m ks).word
+pub typed_told : (m : ℕ) (ks : List ℕ) → (type_all m ks).answer ≡ (Ok tt) → PlacesTold (type_all m ks).word
 typed_told m ks a =
     let h = typed_held m ks a in
     let kept = kept_list (word_of (new_word m)) ks (omega (arith, few_keys m ks a)) (record { letters = none_told; tone = refl }) in

@@ -3,6 +3,7 @@ pub mod Cards
 pub mod Bools
 pub mod Tables
 pub mod Tests
+pub mod Searches
 pub mod Arms
 pub mod Words
 pub mod Appends

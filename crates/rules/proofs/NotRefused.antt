@@ -1,8 +1,8 @@
 -- What the entries answer where nothing is refused: of a word in range its text, place, verdict and decision; of a list of keys a word in range.
+use Rattle.std.specs.Prelude.{Option, Some, None, Result, Ok, Err}
 use mathlib.Core.Path.{◌≡◌, refl, sym, ap, ◌∙◌}
 use mathlib.Core.Bool.{false}
 use mathlib.Core.List.{List}
-use mathlib.Core.Option.{Option, none, some}
 use Prim.Native.Nat.{ℕ, ◌+◌, ◌-◌, ◌≤◌}
 use native.Mathlib.Omega.{arith}
 use borrow.Author.Tests.{le-ltb}
@@ -18,22 +18,7 @@ use Rattle.rules.specs.Refusals.{all, is_mode, out_of_range, table, refusal, Non
 use Rattle.rules.specs.WhatComesBack.{typed, type_call, type_or, type_all, show, Written, verdict_answer, place_answer, decision_answer}
 use Rattle.rules.specs.declared.Word.{Word}
 use Rattle.rules.specs.declared.Refusal.{Refusal}
-use Rattle.rules.specs.declared.TypeAnswer.TheVariants.{AllTyped}
-use Rattle.rules.specs.declared.TypeAnswer.TheVariants.{Refused as TypeRefused}
-use Rattle.rules.specs.declared.WriteAnswer.{WriteAnswer}
-use Rattle.rules.specs.declared.WriteAnswer.TheVariants.{Wrote}
-use Rattle.rules.specs.declared.WriteAnswer.TheVariants.{Refused as WriteRefused}
-use Rattle.rules.specs.declared.VerdictAnswer.{VerdictAnswer}
-use Rattle.rules.specs.declared.VerdictAnswer.TheVariants.{Judged}
-use Rattle.rules.specs.declared.VerdictAnswer.TheVariants.{Refused as VerdictRefused}
-use Rattle.rules.specs.declared.PlaceAnswer.{PlaceAnswer}
-use Rattle.rules.specs.declared.PlaceAnswer.TheVariants.{Found}
-use Rattle.rules.specs.declared.PlaceAnswer.TheVariants.{Refused as PlaceRefused}
-use Rattle.rules.specs.declared.DecisionAnswer.{DecisionAnswer}
-use Rattle.rules.specs.declared.DecisionAnswer.TheVariants.{Decided}
-use Rattle.rules.specs.declared.DecisionAnswer.TheVariants.{Refused as DecisionRefused}
 use Rattle.rules.specs.declared.Decision.{Decision}
-use Rattle.rules.specs.declared.Place.{Place}
 use Rattle.rules.proofs.Tests.{is_false}
 use Rattle.rules.proofs.Refused.{refusal_none}
 use Rattle.rules.proofs.StaysInRange.{read_front}
@@ -47,28 +32,28 @@ module _ (w : Word) (range : out_of_range w ≡ false) where
   abbrev its_text : List ℕ
   its_text = shown (word_of w).state
 
-  pub shows : (out : List ℕ) → most_bytes ≤ length out → show w out ≡ record { answer = Wrote (length its_text); output = at_front its_text out }
+  pub shows : (out : List ℕ) → most_bytes ≤ length out → show w out ≡ record { answer = Ok (length its_text); output = at_front its_text out }
   unfolding show refusal
   shows out room = simp (range, le-ltb (length out) (length (shown (word_of w).state)) (omega (arith, room, text_fits w range)))
 
-  pub finds : place_answer w ≡ Found (tone_place (word_of w).state.letters w.tone)
+  pub finds : place_answer w ≡ Ok (tone_place (word_of w).state.letters w.tone)
   unfolding place_answer refusal
   finds = simp range
 
-  pub judges : verdict_answer w ≡ Judged (verdict (word_of w).state.letters w.tone)
+  pub judges : verdict_answer w ≡ Ok (verdict (word_of w).state.letters w.tone)
   unfolding verdict_answer refusal
   judges = simp range
 
-  pub decides : decision_answer w ≡ Decided (decision (word_of w))
+  pub decides : decision_answer w ≡ Ok (decision (word_of w))
   unfolding decision_answer refusal
   decides = simp range
 
   -- so an answer is no refusal, and gives the value
-  module _ (out : List ℕ) (room : most_bytes ≤ length out) (r : WriteAnswer) (a : r ≡ (show w out).answer) where
-    pub is_written : (x : Refusal) → r ≡ WriteRefused x → ⊥
+  module _ (out : List ℕ) (room : most_bytes ≤ length out) (r : Result ℕ Refusal) (a : r ≡ (show w out).answer) where
+    pub is_written : (x : Refusal) → r ≡ Err x → ⊥
     is_written x d = let f = sym d ∙ a ∙ ap (λ (y : Written). y.answer) (shows out room) in let z : ◌≡◌ {A = ℕ} 0 1 = cc in omega arith
 
-    module _ (n : ℕ) (d : r ≡ Wrote n) where
+    module _ (n : ℕ) (d : r ≡ Ok n) where
       pub so_long : n ≡ length its_text
       so_long = let f = sym d ∙ a ∙ ap (λ (y : Written). y.answer) (shows out room) in cc
 
@@ -80,45 +65,45 @@ module _ (w : Word) (range : out_of_range w ≡ false) where
     pub in_front : (show w out).output ≡ at_front its_text out
     in_front = ap (λ (y : Written). y.output) (shows out room)
 
-  module _ (r : PlaceAnswer) (a : r ≡ place_answer w) where
-    pub is_found : (x : Refusal) → r ≡ PlaceRefused x → ⊥
+  module _ (r : Result (Option ℕ) Refusal) (a : r ≡ place_answer w) where
+    pub is_found : (x : Refusal) → r ≡ Err x → ⊥
     is_found x d = let f = sym d ∙ a ∙ finds in let z : ◌≡◌ {A = ℕ} 0 1 = cc in omega arith
 
-    pub its_place : (p : Place) → r ≡ Found p → p ≡ tone_place (word_of w).state.letters w.tone
+    pub its_place : (p : Option ℕ) → r ≡ Ok p → p ≡ tone_place (word_of w).state.letters w.tone
     its_place p d = let f = sym d ∙ a ∙ finds in cc
 
-  module _ (r : VerdictAnswer) (a : r ≡ verdict_answer w) where
-    pub is_judged : (x : Refusal) → r ≡ VerdictRefused x → ⊥
+  module _ (r : Result ℕ Refusal) (a : r ≡ verdict_answer w) where
+    pub is_judged : (x : Refusal) → r ≡ Err x → ⊥
     is_judged x d = let f = sym d ∙ a ∙ judges in let z : ◌≡◌ {A = ℕ} 0 1 = cc in omega arith
 
-    pub its_verdict : (v : ℕ) → r ≡ Judged v → v ≡ verdict (word_of w).state.letters w.tone
+    pub its_verdict : (v : ℕ) → r ≡ Ok v → v ≡ verdict (word_of w).state.letters w.tone
     its_verdict v d = let f = sym d ∙ a ∙ judges in cc
 
-  module _ (r : DecisionAnswer) (a : r ≡ decision_answer w) where
-    pub is_decided : (x : Refusal) → r ≡ DecisionRefused x → ⊥
+  module _ (r : Result Decision Refusal) (a : r ≡ decision_answer w) where
+    pub is_decided : (x : Refusal) → r ≡ Err x → ⊥
     is_decided x d = let f = sym d ∙ a ∙ decides in let z : ◌≡◌ {A = ℕ} 0 1 = cc in omega arith
 
-    pub its_decision : (x : Decision) → r ≡ Decided x → x ≡ decision (word_of w)
+    pub its_decision : (x : Decision) → r ≡ Ok x → x ≡ decision (word_of w)
     its_decision x d = let f = sym d ∙ a ∙ decides in cc
 
 -- a list of keys
 module _ (m : ℕ) (ks : List ℕ) where
-  pub refused_as : (x : Refusal) → (type_all m ks).answer ≡ TypeRefused x → refusal (type_call m ks) ≡ some x
+  pub refused_as : (x : Refusal) → (type_all m ks).answer ≡ Err x → refusal (type_call m ks) ≡ Some x
   unfolding type_all
   refused_as x = go (refusal (type_call m ks))
     where
-      go : (o : Option Refusal) → (type_or o m ks).answer ≡ TypeRefused x → o ≡ some x
-      go none e = let z : ◌≡◌ {A = ℕ} 0 1 = cc in absurd (omega arith)
-      go (some y) e = let f : y ≡ x = cc in ap (λ (u : Refusal). some u) f
+      go : (o : Option Refusal) → (type_or o m ks).answer ≡ Err x → o ≡ Some x
+      go None e = let z : ◌≡◌ {A = ℕ} 0 1 = cc in absurd (omega arith)
+      go (Some y) e = let f : y ≡ x = cc in ap (λ (u : Refusal). Some u) f
 
-  module _ (a : (type_all m ks).answer ≡ AllTyped) where
-    pub not_refused : refusal (type_call m ks) ≡ none
+  module _ (a : (type_all m ks).answer ≡ (Ok tt)) where
+    pub not_refused : refusal (type_call m ks) ≡ None
     unfolding type_all
     not_refused = go (refusal (type_call m ks)) a
       where
-        go : (o : Option Refusal) → (type_or o m ks).answer ≡ AllTyped → o ≡ none
-        go none e = refl
-        go (some y) e = let z : ◌≡◌ {A = ℕ} 0 1 = cc in absurd (omega arith)
+        go : (o : Option Refusal) → (type_or o m ks).answer ≡ (Ok tt) → o ≡ None
+        go None e = refl
+        go (Some y) e = let z : ◌≡◌ {A = ℕ} 0 1 = cc in absurd (omega arith)
 
     pub typed_as : (type_all m ks).word ≡ holding (new_word m) (typed m ks)
     unfolding type_all

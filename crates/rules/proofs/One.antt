@@ -1,6 +1,8 @@
 -- One possible result: any two results that a contract allows at the same arguments are equal.
 use mathlib.Core.Path.{◌≡◌, sym, ◌∙◌}
 use contract.Lifetimes.{Lfts}
+use denote.Param.Laws.{Laws}
+use denote.RattleType.{RattleType}
 use denote.Triple.Entry.{Args, Res}
 use denote.Triple.Clauses.{AtExit}
 use Rattle.rules.specs.contracts.Word.telex as telex
@@ -17,6 +19,8 @@ use Rattle.rules.specs.contracts.is as is_letter
 use Rattle.rules.proofs.is.Reads as is-reads
 use Rattle.rules.specs.contracts.reshaped as reshaped
 use Rattle.rules.proofs.reshaped.Reads as reshaped-reads
+use Rattle.rules.specs.contracts.refuse as refuse
+use Rattle.rules.proofs.refuse.Reads as refuse-reads
 
 pub telex_one : (κs : Lfts 0) (a : Args telex.signature κs) (r r' : Res telex.signature κs) (e e' : AtExit telex.ended κs) → telex-reads.Post κs a r e → telex-reads.Post κs a r' e' → r ≡ r'
 telex_one κs a r r' e e' p p' = p ∙ sym p'
@@ -38,3 +42,6 @@ is_one κs a r r' e e' p p' = p ∙ sym p'
 
 pub reshaped_one : (κs : Lfts 0) (a : Args reshaped.signature κs) (r r' : Res reshaped.signature κs) (e e' : AtExit reshaped.ended κs) → reshaped-reads.Post κs a r e → reshaped-reads.Post κs a r' e' → r ≡ r'
 reshaped_one κs a r r' e e' p p' = p ∙ sym p'
+
+pub refuse_one : (T : RattleType) (laws : Laws T) (κs : Lfts 1) (a : Args (refuse.signature T) κs) (r r' : Res (refuse.signature T) κs) (e e' : AtExit (refuse.ended T) κs) → refuse-reads.Post T laws κs a r e → refuse-reads.Post T laws κs a r' e' → r ≡ r'
+refuse_one T laws κs a r r' e e' p p' = p ∙ sym p'

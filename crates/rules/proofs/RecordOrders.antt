@@ -1,4 +1,5 @@
 -- Demand 3, first half, of records: any record in range that is open and has room for two more keys, and two keys of different families that would each act alone.
+use Rattle.std.specs.Prelude.{Ok}
 use mathlib.Core.Path.{◌≡◌, sym, ap, subst, ◌∙◌}
 use mathlib.Core.Bool.{Bool, true, false, not}
 use mathlib.Core.List.{List, [], ◌∷◌, ◌++◌, map}
@@ -17,7 +18,6 @@ use Rattle.rules.specs.declared.Touched.{Touched}
 use Rattle.rules.specs.declared.Act.{Act}
 use Rattle.rules.specs.declared.Outcome.TheVariants.{Acted}
 use Rattle.rules.specs.declared.Step.{Step}
-use Rattle.rules.specs.declared.StepAnswer.TheVariants.{Did}
 use Rattle.rules.proofs.Commute.{Differ, acts, keeps_length}
 use Rattle.rules.proofs.Orders.{PlacesBelow, orders}
 use Rattle.rules.proofs.Range.{in_range}
@@ -28,8 +28,8 @@ use Rattle.rules.proofs.Records.{front_front, word_held, held_twice, accepted}
 pub record SameRecords (w : Word) (k m : ℕ) (a b : Act) : Type 0 where
   pub equal : (step (step w k).word m).word ≡ with_exchanged w.typed (step (step w m).word k).word (at_front (take w.typed w.keys ++ (k ∷ m ∷ [])) w.keys)
   pub keys : (step (step w m).word k).word.keys ≡ at_front (take w.typed w.keys ++ (m ∷ k ∷ [])) w.keys
-  pub second_acts : (step (step w k).word m).answer ≡ Did (Acted b)
-  pub first_acts : (step (step w m).word k).answer ≡ Did (Acted a)
+  pub second_acts : (step (step w k).word m).answer ≡ Ok (Acted b)
+  pub first_acts : (step (step w m).word k).answer ≡ Ok (Acted a)
 
 -- a step whose answer is acted: the key is allowed, and the rule says acted
 acted_of : (d : Done) {a : Act} → outcome_of d ≡ Acted a → d ≡ acted a (touched_of d) (state_of d)
@@ -37,10 +37,10 @@ acted_of (acted x g s) e = ap (λ (y : Act). acted y g s) (cc)
 acted_of (undone g s) e = let z : ◌≡◌ {A = ℕ} 0 1 = cc in absurd (omega arith)
 acted_of (appended g s) e = let z : ◌≡◌ {A = ℕ} 0 1 = cc in absurd (omega arith)
 
-did : (w : Word) (k : ℕ) {a : Act} → (step w k).answer ≡ Did (Acted a) → T (is_key w.mode k) × (key_does (word_of w) k ≡ acted a (touched_of (key_does (word_of w) k)) (state_of (key_does (word_of w) k)))
+did : (w : Word) (k : ℕ) {a : Act} → (step w k).answer ≡ Ok (Acted a) → T (is_key w.mode k) × (key_does (word_of w) k ≡ acted a (touched_of (key_does (word_of w) k)) (state_of (key_does (word_of w) k)))
 did w k {a} h =
     let t = taken_by w k (Acted a) h in
-    let e : Did (outcome_of (key_does (word_of w) k)) ≡ Did (Acted a) = sym (ap (λ (x : Step). x.answer) (accepted w k t.range t.room t.key)) ∙ h in
+    let e : Ok (outcome_of (key_does (word_of w) k)) ≡ Ok (Acted a) = sym (ap (λ (x : Step). x.answer) (accepted w k t.range t.room t.key)) ∙ h in
     (t.key, acted_of (key_does (word_of w) k) (cc))
 
 -- a key that acts keeps the number of letters
@@ -86,7 +86,7 @@ module _ (w : Word) (whole : Whole w) (range : T (not (out_of_range w))) (room :
       abreast_next (type (word_of w) k) m (next (type (word_of w) k) m key' (next (word_of w) k key (state_fine w (in_range w range))).fine) (one_abreast k key)
 
   two_steps : (k m : ℕ) {b : Act} {g : Touched} {v : State} → T (is_key w.mode k) → T (is_key w.mode m) → key_does (type (word_of w) k) m ≡ acted b g v →
-      step (step w k).word m ≡ record { answer = Did (Acted b); word = holding w (type (type (word_of w) k) m) }
+      step (step w k).word m ≡ record { answer = Ok (Acted b); word = holding w (type (type (word_of w) k) m) }
   two_steps k m {b} key key' h =
       let z = word_of w in
       let r = in_range w range in
@@ -97,11 +97,11 @@ module _ (w : Word) (whole : Whole w) (range : T (not (out_of_range w))) (room :
       let letters_then : length (type z k).state.letters ≡ length (type (type z k) m).state.letters = acting_length (type z k) m h ∙ ap (λ (d : Done). length (state_of d).letters) (sym h) in
       let keys_then : length (type z k).keys ≤ length (type (type z k) m).keys = simp (length-append (type z k).keys (m ∷ [])) (omega arith) in
       ap (λ (x : Word). step x m) one ∙ accepted (holding w (type z k)) m in_range_then (omega (arith, typed_then)) key' ∙
-      ap (λ (y : Typed). record { answer = Did (outcome_of (key_does y m)); word = holding (holding w (type z k)) (type y m) }) held ∙
-      (λ i. record { answer = Did (outcome_of (h i)); word = held_twice w (type z k) (type (type z k) m) (one_abreast k key) (two_abreast k m key key') (omega (arith, letters_then)) keys_then i })
+      ap (λ (y : Typed). record { answer = Ok (outcome_of (key_does y m)); word = holding (holding w (type z k)) (type y m) }) held ∙
+      (λ i. record { answer = Ok (outcome_of (h i)); word = held_twice w (type z k) (type (type z k) m) (one_abreast k key) (two_abreast k m key key') (omega (arith, letters_then)) keys_then i })
 
   pub record_orders : (k m : ℕ) {a b : Act} → w.closed ≡ false → Differ (role w.mode k) (role w.mode m) →
-      (step w k).answer ≡ Did (Acted a) → (step w m).answer ≡ Did (Acted b) → SameRecords w k m a b
+      (step w k).answer ≡ Ok (Acted a) → (step w m).answer ≡ Ok (Acted b) → SameRecords w k m a b
   record_orders k m o p g h =
       let (key, does) = did w k g in
       let (key', does') = did w m h in

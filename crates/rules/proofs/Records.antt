@@ -1,4 +1,5 @@
 -- A record that holds a word is read as that word; a step that is not refused holds the word with the key typed.
+use Rattle.std.specs.Prelude.{Ok}
 use mathlib.Core.Path.{◌≡◌, refl, sym, ap, ◌∙◌}
 use mathlib.Core.Bool.{true, not, ◌&&◌}
 use mathlib.Core.List.{List, ◌++◌, map}
@@ -13,7 +14,6 @@ use Rattle.rules.specs.KeyRoles.{is_key, key_does, type}
 use Rattle.rules.specs.Refusals.{out_of_range, no_rows, not_this}
 use Rattle.rules.specs.WhatComesBack.{step_call, step_or, step}
 use Rattle.rules.specs.declared.Word.{Word}
-use Rattle.rules.specs.declared.StepAnswer.TheVariants.{Did}
 use Rattle.rules.specs.LettersOfAMode.{AllFine}
 use Rattle.rules.proofs.Numbers.{letters_numbers}
 use Rattle.rules.proofs.Refused.{refusal_none}
@@ -91,7 +91,7 @@ held_twice w y z a b l k =
     }
 
 -- a step on a record in range, with room and an allowed key, is not refused
-pub accepted : (w : Word) (k : ℕ) → T (not (out_of_range w)) → w.typed + 1 ≤ most_keys → T (is_key w.mode k) → step w k ≡ record { answer = Did (outcome_of (key_does (word_of w) k)); word = holding w (type (word_of w) k) }
+pub accepted : (w : Word) (k : ℕ) → T (not (out_of_range w)) → w.typed + 1 ≤ most_keys → T (is_key w.mode k) → step w k ≡ record { answer = Ok (outcome_of (key_does (word_of w) k)); word = holding w (type (word_of w) k) }
 unfolding step
 accepted w k range room key =
     ap (λ o. step_or o w k)

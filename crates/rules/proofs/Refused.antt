@@ -1,8 +1,8 @@
 -- Each refusal is given exactly when its condition holds and no earlier one's does; and a refused answer leaves the word and the output as they were.
+use Rattle.std.specs.Prelude.{Option, Some, None}
 use mathlib.Core.Path.{◌≡◌, refl, sym, ap, ap₂, subst, ◌∙◌}
 use mathlib.Core.Bool.{Bool, true, false, not}
 use mathlib.Core.List.{List, [], ◌∷◌}
-use mathlib.Core.Option.{Option, none, some}
 use mathlib.Core.Logic.{◌↔◌, ◌⊎◌, inl, inr}
 use Prim.Native.Nat.{ℕ}
 use native.Mathlib.Omega.{arith}
@@ -24,8 +24,8 @@ pub table_order : (c : Call) → numbers_of (table c) ≡ 8 ∷ 1 ∷ 2 ∷ 2 �
 table_order c = refl
 
 data View (rs : List TableRow) : Option Refusal → Type 0 where
-  not_refused : NoneHolds rs → View rs none
-  refused_by : {x : Refusal} → FirstOf rs x → View rs (some x)
+  not_refused : NoneHolds rs → View rs None
+  refused_by : {x : Refusal} → FirstOf rs x → View rs (Some x)
 
 view : (rs : List TableRow) → View rs (first_row rs)
 view [] = not_refused no_rows
@@ -35,7 +35,7 @@ view (r ∷ rs) = go r.when refl (view rs)
     next t (not_refused n) = not_refused (not_this t n)
     next t (refused_by f) = refused_by (later_row t f)
 
-    go : (b : Bool) → r.when ≡ b → {o : Option Refusal} → View rs o → View (r ∷ rs) (elim b [ true ↦ some (record { number = r.number; value = r.returned }) | false ↦ o ])
+    go : (b : Bool) → r.when ≡ b → {o : Option Refusal} → View rs o → View (r ∷ rs) (elim b [ true ↦ Some (record { number = r.number; value = r.returned }) | false ↦ o ])
     go true e h = refused_by (this_row (subst T (sym e) tt))
     go false e h = next (subst (λ (b : Bool). T (not b)) (sym e) tt) h
 
@@ -47,25 +47,25 @@ if_false : (b : Bool) (x o : Option Refusal) → T (not b) → elim b [ true ↦
 if_false true x o t = absurd t
 if_false false x o t = refl
 
-first_given : {rs : List TableRow} {x : Refusal} → FirstOf rs x → first_row rs ≡ some x
+first_given : {rs : List TableRow} {x : Refusal} → FirstOf rs x → first_row rs ≡ Some x
 first_given (this_row {r = r} t) = if_true r.when _ _ t
 first_given (later_row {r = r} t f) = if_false r.when _ _ t ∙ first_given f
 
-none_given : {rs : List TableRow} → NoneHolds rs → first_row rs ≡ none
+none_given : {rs : List TableRow} → NoneHolds rs → first_row rs ≡ None
 none_given no_rows = refl
 none_given (not_this {r = r} t n) = if_false r.when _ _ t ∙ none_given n
 
-of_view : {rs : List TableRow} {x : Refusal} → View rs (some x) → FirstOf rs x
+of_view : {rs : List TableRow} {x : Refusal} → View rs (Some x) → FirstOf rs x
 of_view (refused_by f) = f
 
-pub refusal_given : (c : Call) (x : Refusal) → refusal c ≡ some x ↔ FirstOf (table c) x
+pub refusal_given : (c : Call) (x : Refusal) → refusal c ≡ Some x ↔ FirstOf (table c) x
 unfolding refusal
 refusal_given c x = (λ e. of_view (subst (View (table c)) e (view (table c))), first_given)
 
-of_none : {rs : List TableRow} → View rs none → NoneHolds rs
+of_none : {rs : List TableRow} → View rs None → NoneHolds rs
 of_none (not_refused n) = n
 
-pub refusal_none : (c : Call) → refusal c ≡ none ↔ NoneHolds (table c)
+pub refusal_none : (c : Call) → refusal c ≡ None ↔ NoneHolds (table c)
 unfolding refusal
 refusal_none c = (λ e. of_none (subst (View (table c)) e (view (table c))), none_given)
 
@@ -79,16 +79,16 @@ one_or_the_other c = go (view (table c))
     go (refused_by {x = x} f) = inr (x, f)
 
 -- an entry's answer, over the refusal of its call: it is refused with these numbers exactly so
-module _ (says : Option Refusal → Says) (vs : List ℕ) (when_none : says none ≡ answered vs) (when_refused : (x : Refusal) → says (some x) ≡ refusing x) where
-  held : (o : Option Refusal) (x : Refusal) → says o ≡ refusing x → o ≡ some x
-  held none x e = let f : answered vs ≡ refusing x = sym when_none ∙ e in let z : ◌≡◌ {A = ℕ} 0 1 = cc in absurd (omega arith)
-  held (some y) x e = let f : refusing y ≡ refusing x = sym (when_refused y) ∙ e in ap₂ (λ (n v : ℕ). some (record { number = n; value = v })) (cc) (cc)
+module _ (says : Option Refusal → Says) (vs : List ℕ) (when_none : says None ≡ answered vs) (when_refused : (x : Refusal) → says (Some x) ≡ refusing x) where
+  held : (o : Option Refusal) (x : Refusal) → says o ≡ refusing x → o ≡ Some x
+  held None x e = let f : answered vs ≡ refusing x = sym when_none ∙ e in let z : ◌≡◌ {A = ℕ} 0 1 = cc in absurd (omega arith)
+  held (Some y) x e = let f : refusing y ≡ refusing x = sym (when_refused y) ∙ e in ap₂ (λ (n v : ℕ). Some (record { number = n; value = v })) (cc) (cc)
 
   exactly : (c : Call) (x : Refusal) → says (refusal c) ≡ refusing x ↔ FirstOf (table c) x
   exactly c x = (λ e. (refusal_given c x).0 (held (refusal c) x e), λ g. ap says ((refusal_given c x).1 g) ∙ when_refused x)
 
   -- what holds at every refusal holds where it is refused
-  where_refused : (P : Option Refusal → Type 0) → ((r : Refusal) → P (some r)) → (c : Call) (x : Refusal) → says (refusal c) ≡ refusing x → P (refusal c)
+  where_refused : (P : Option Refusal → Type 0) → ((r : Refusal) → P (Some r)) → (c : Call) (x : Refusal) → says (refusal c) ≡ refusing x → P (refusal c)
   where_refused P h c x e = subst P (sym (held (refusal c) x e)) (h x)
 
 pub start_exactly : (m : ℕ) (x : Refusal) → start_says (start m).answer ≡ refusing x ↔ FirstOf (table (start_call m)) x

@@ -1,8 +1,8 @@
 -- A step on a record in range leaves a record in range, with arrays of the same length and as many places of keys as letters.
+use Rattle.std.specs.Prelude.{Option, Some, None, Ok}
 use mathlib.Core.Path.{◌≡◌, refl, sym, ap, subst, ◌∙◌}
 use mathlib.Core.Bool.{Bool, true, false, not, ◌&&◌}
 use mathlib.Core.List.{List, [], ◌∷◌, ◌++◌, map}
-use mathlib.Core.Option.{Option, none, some}
 use Prim.Native.Nat.{ℕ, zero, suc, ◌+◌, ◌≤◌}
 use native.Mathlib.Omega.{arith}
 use lib.Dec.{T, eqb, leb, leb→le, ltb→lt, lt→ltb, nltb→le, lit≤}
@@ -17,7 +17,6 @@ use Rattle.rules.specs.WhatComesBack.{step_call, step_or, step}
 use Rattle.rules.specs.declared.Word.{Word}
 use Rattle.rules.specs.declared.Outcome.{Outcome}
 use Rattle.rules.specs.declared.Outcome.TheVariants.{Acted, Undone, Appended}
-use Rattle.rules.specs.declared.StepAnswer.TheVariants.{Did}
 use Rattle.rules.specs.declared.Refusal.{Refusal}
 use Rattle.rules.specs.declared.Touched.{Touched}
 use Rattle.rules.specs.declared.Touched.TheVariants.{NoLetter, OneLetter, TwoLetters}
@@ -330,20 +329,20 @@ pub taken : (w : Word) (k : ℕ) → NoneHolds (table (step_call w k)) → Taken
 taken w k (not_this range (not_this mode (not_this full (not_this text (not_this byte more))))) =
     record { range = range; room = nltb→le most_keys (w.typed + 1) full; key = and_l (is_key w.mode k) true (not_not (is_key w.mode k && true) byte) }
 
-pub taken_by : (w : Word) (k : ℕ) (o : Outcome) → (step w k).answer ≡ Did o → Taken w k
+pub taken_by : (w : Word) (k : ℕ) (o : Outcome) → (step w k).answer ≡ Ok o → Taken w k
 unfolding step
 taken_by w k o e = go (refusal (step_call w k)) refl e
   where
-    go : (f : Option Refusal) → refusal (step_call w k) ≡ f → (step_or f w k).answer ≡ Did o → Taken w k
-    go (some x) r e = let z : ◌≡◌ {A = ℕ} 0 1 = cc in absurd (omega arith)
-    go none r e = taken w k ((refusal_none (step_call w k)).0 r)
+    go : (f : Option Refusal) → refusal (step_call w k) ≡ f → (step_or f w k).answer ≡ Ok o → Taken w k
+    go (Some x) r e = let z : ◌≡◌ {A = ℕ} 0 1 = cc in absurd (omega arith)
+    go None r e = taken w k ((refusal_none (step_call w k)).0 r)
 
 pub step_in_range : (w : Word) (k : ℕ) → Whole w → T (not (out_of_range w)) → T (not (out_of_range (step w k).word)) × Whole (step w k).word
 unfolding step
 step_in_range w k whole t = go (refusal (step_call w k)) refl
   where
     go : (o : Option Refusal) → refusal (step_call w k) ≡ o → T (not (out_of_range (step_or o w k).word)) × Whole (step_or o w k).word
-    go (some x) e = (t, whole)
-    go none e =
+    go (Some x) e = (t, whole)
+    go None e =
         let a = taken w k ((refusal_none (step_call w k)).0 e) in
         (range_in (after w k) (after_in_range w k whole (in_range w t) a.room a.key), after_whole w k whole (in_range w t) a.room a.key)

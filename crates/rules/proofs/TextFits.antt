@@ -1,4 +1,5 @@
 -- A text has at most three bytes a letter, and that of any record in range fits 96 bytes.
+use Rattle.std.specs.Prelude.{Option, Some, None}
 use mathlib.Core.Path.{◌≡◌, refl, ap}
 use mathlib.Core.Bool.{Bool, true, false}
 use mathlib.Core.List.{List, [], ◌∷◌}
@@ -12,8 +13,6 @@ use Rattle.rules.specs.TonePlace.{tone_place}
 use Rattle.rules.specs.CodePoints.{Sign, point, utf8, bytes, without_tone, tone_at, signs_at, shown}
 use Rattle.rules.specs.Refusals.{out_of_range}
 use Rattle.rules.specs.declared.Word.{Word}
-use Rattle.rules.specs.declared.Place.{Place}
-use Rattle.rules.specs.declared.Place.TheVariants.{At, Nowhere}
 use Rattle.rules.proofs.Range.{few_letters}
 
 -- a code point takes at most three bytes
@@ -42,9 +41,9 @@ toned n t [] = refl
 toned zero t (x ∷ xs) = ap suc (toneless xs)
 toned (suc n) t (x ∷ xs) = ap suc (toned n t xs)
 
-each_shown : (p : Place) (t : ℕ) (w : Letters) → length (signs_at p t w) ≡ length w
-each_shown (At n) t w = toned n t w
-each_shown Nowhere t w = toneless w
+each_shown : (p : Option ℕ) (t : ℕ) (w : Letters) → length (signs_at p t w) ≡ length w
+each_shown (Some n) t w = toned n t w
+each_shown None t w = toneless w
 
 pub three_a_letter : (s : State) → length (shown s) ≤ 3 * length s.letters
 three_a_letter s =

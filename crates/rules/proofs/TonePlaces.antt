@@ -1,8 +1,8 @@
 -- The tone is shown on a vowel letter, whatever the word.
+use Rattle.std.specs.Prelude.{Option, Some, None}
 use mathlib.Core.Path.{◌≡◌, refl, sym, subst}
 use mathlib.Core.Bool.{Bool, true, false, not, ◌&&◌, ◌||◌}
 use mathlib.Core.List.{[], ◌∷◌, ◌++◌}
-use mathlib.Core.Option.{Option, none, some}
 use Prim.Native.Nat.{ℕ, zero, suc, ◌+◌, ◌<◌}
 use native.Mathlib.Omega.{arith}
 use borrow.Author.Tests.{eqb-true}
@@ -11,7 +11,6 @@ use lib.ListN.{length}
 use Rattle.rules.specs.Letters.{Letter, Letters, plain, no_tone, is_nil}
 use Rattle.rules.specs.TakingApart.{vowel, front, front_if, past, before, run, joins, nucleus_of, initial, nucleus, final, leftovers}
 use Rattle.rules.specs.TonePlace.{or_here, last_shaped, by_count, or_by_count, place_within, place_unless, tone_place}
-use Rattle.rules.specs.declared.Place.TheVariants.{At}
 use Rattle.rules.proofs.Wholes.{whole}
 
 -- there is a letter at the place, and it is a vowel letter
@@ -54,14 +53,14 @@ after (x ∷ xs) n more t =
     subst (λ (m : ℕ). T (vowel_at m (x ∷ (xs ++ more)))) e (after xs n more t)
 
 -- the place within a nucleus is one of its letters
-shaped_within : (nuc : Letters) (n : ℕ) → last_shaped nuc ≡ some n → n < length nuc
+shaped_within : (nuc : Letters) (n : ℕ) → last_shaped nuc ≡ Some n → n < length nuc
 shaped_within [] n e = let z : ◌≡◌ {A = ℕ} 0 1 = cc in absurd (omega arith)
 shaped_within (x ∷ xs) n e = go (last_shaped xs) (shaped_within xs) (not (eqb x.shape plain)) e
   where
-    go : (o : Option ℕ) → ((m : ℕ) → o ≡ some m → m < length xs) → (b : Bool) → or_here o b ≡ some n → n < suc (length xs)
-    go (some m) r b e = let s = r m refl in let q : suc m ≡ n = cc in omega arith
-    go none r true e = let q : 0 ≡ n = cc in omega arith
-    go none r false e = let z : ◌≡◌ {A = ℕ} 0 1 = cc in absurd (omega arith)
+    go : (o : Option ℕ) → ((m : ℕ) → o ≡ Some m → m < length xs) → (b : Bool) → or_here o b ≡ Some n → n < suc (length xs)
+    go (Some m) r b e = let s = r m refl in let q : suc m ≡ n = cc in omega arith
+    go None r true e = let q : 0 ≡ n = cc in omega arith
+    go None r false e = let z : ◌≡◌ {A = ℕ} 0 1 = cc in absurd (omega arith)
 
 count_within : (n : ℕ) (ends : Bool) → 0 < n → by_count n ends < n
 count_within n ends h = go (eqb n 3) refl (eqb n 2) refl ends
@@ -77,18 +76,18 @@ place_within_law nuc ends h = go (eqb (length nuc) 1) (last_shaped nuc) refl
   where
     go : (b : Bool) (o : Option ℕ) → last_shaped nuc ≡ o → elim b [ true ↦ 0 | false ↦ or_by_count o (by_count (length nuc) ends) ] < length nuc
     go true o e = h
-    go false (some n) e = shaped_within nuc n e
-    go false none e = count_within (length nuc) ends h
+    go false (Some n) e = shaped_within nuc n e
+    go false None e = count_within (length nuc) ends h
 
 some_letters : (w : Letters) → is_nil w ≡ false → 0 < length w
 some_letters [] e = let z : ◌≡◌ {A = ℕ} 0 1 = cc in absurd (omega arith)
 some_letters (x ∷ xs) e = omega arith
 
-pub tone_on_a_vowel : (w : Letters) (t n : ℕ) → tone_place w t ≡ At n → T (vowel_at n w)
+pub tone_on_a_vowel : (w : Letters) (t n : ℕ) → tone_place w t ≡ Some n → T (vowel_at n w)
 unfolding tone_place
 tone_on_a_vowel w t n = go (eqb t no_tone) (is_nil (nucleus w)) refl
   where
-    go : (p q : Bool) → is_nil (nucleus w) ≡ q → place_unless (p || q) (length (initial w) + place_within (nucleus w) (is_nil (final w) && is_nil (leftovers w))) ≡ At n → T (vowel_at n w)
+    go : (p q : Bool) → is_nil (nucleus w) ≡ q → place_unless (p || q) (length (initial w) + place_within (nucleus w) (is_nil (final w) && is_nil (leftovers w))) ≡ Some n → T (vowel_at n w)
     go true q d e = let z : ◌≡◌ {A = ℕ} 0 1 = cc in absurd (omega arith)
     go false true d e = let z : ◌≡◌ {A = ℕ} 0 1 = cc in absurd (omega arith)
     go false false d e =
@@ -105,5 +104,5 @@ vowel_within n [] t = absurd t
 vowel_within zero (x ∷ xs) t = omega arith
 vowel_within (suc n) (x ∷ xs) t = omega (arith, vowel_within n xs t)
 
-pub place_in_word : (w : Letters) (t n : ℕ) → tone_place w t ≡ At n → n < length w
+pub place_in_word : (w : Letters) (t n : ℕ) → tone_place w t ≡ Some n → n < length w
 place_in_word w t n e = vowel_within n w (tone_on_a_vowel w t n e)

@@ -1,8 +1,8 @@
 -- Places of a record past its counts: two records that agree in all else get the same answers and still agree after a step, and a step leaves those places as they were.
+use Rattle.std.specs.Prelude.{Option, Some, None, Ok}
 use mathlib.Core.Path.{◌≡◌, refl, sym, ap, ap₂, ◌∙◌}
 use mathlib.Core.Bool.{Bool}
 use mathlib.Core.List.{List, [], ◌∷◌, map}
-use mathlib.Core.Option.{Option, none, some}
 use Prim.Native.Nat.{ℕ, ◌+◌, ◌-◌, ◌≤◌}
 use native.Mathlib.Nat.{le_refl}
 use native.Mathlib.Omega.{arith}
@@ -18,10 +18,6 @@ use Rattle.rules.specs.Refusals.{Call, TableRow, asks, table, first_row, out_of_
 use Rattle.rules.specs.WhatComesBack.{step_call, step_or, step, write_or, show_call, show, word_call, place_or, place_answer, verdict_or, verdict_answer, decision_or, decision_answer}
 use Rattle.rules.specs.declared.Word.{Word}
 use Rattle.rules.specs.declared.Refusal.{Refusal}
-use Rattle.rules.specs.declared.StepAnswer.TheVariants.{Did}
-use Rattle.rules.specs.declared.PlaceAnswer.TheVariants.{Found}
-use Rattle.rules.specs.declared.VerdictAnswer.TheVariants.{Judged}
-use Rattle.rules.specs.declared.DecisionAnswer.TheVariants.{Decided}
 use Rattle.rules.proofs.Range.{in_range}
 use Rattle.rules.proofs.Refused.{refusal_none}
 use Rattle.rules.proofs.StaysInRange.{Whole, Abreast, abreast_next, abreast_of, state_fine, next, taken, read_front}
@@ -56,7 +52,7 @@ rest [] = []
 rest (r ∷ rs) = rs
 
 -- a call whose record is asked about in row 8 alone
-refusal_used : (w : Word) (c d : Call) → c.record? ≡ some (used w) → d.record? ≡ some w → rest (table c) ≡ rest (table d) → refusal c ≡ refusal d
+refusal_used : (w : Word) (c d : Call) → c.record? ≡ Some (used w) → d.record? ≡ Some w → rest (table c) ≡ rest (table d) → refusal c ≡ refusal d
 unfolding refusal
 refusal_used w c d p q e =
     ap₂ (λ (o : Option Word) (rs : List TableRow). first_row (record { number = 8; when = asks out_of_range o; returned = 0 } ∷ rs)) p e ∙
@@ -64,16 +60,16 @@ refusal_used w c d p q e =
     ap (λ (o : Option Word). first_row (record { number = 8; when = asks out_of_range o; returned = 0 } ∷ rest (table d))) (sym q)
 
 -- an answer that is made of the refusal and the word that is read
-module _ {A : Type 0} (answer : Option Refusal → Word → A) (by_word : Typed → A) (same : (w : Word) → answer none w ≡ by_word (word_of w)) (refused : (x : Refusal) (w : Word) → answer (some x) (used w) ≡ answer (some x) w) where
+module _ {A : Type 0} (answer : Option Refusal → Word → A) (by_word : Typed → A) (same : (w : Word) → answer None w ≡ by_word (word_of w)) (refused : (x : Refusal) (w : Word) → answer (Some x) (used w) ≡ answer (Some x) w) where
   answer_used : (o : Option Refusal) (w : Word) → answer o (used w) ≡ answer o w
-  answer_used none w = same (used w) ∙ ap by_word (word_used w) ∙ sym (same w)
-  answer_used (some x) w = refused x w
+  answer_used None w = same (used w) ∙ ap by_word (word_used w) ∙ sym (same w)
+  answer_used (Some x) w = refused x w
 
 step_used : (w : Word) (k : ℕ) → (step (used w) k).answer ≡ (step w k).answer
 unfolding step
 step_used w k =
     ap (λ (o : Option Refusal). (step_or o (used w) k).answer) (refusal_used w (step_call (used w) k) (step_call w k) refl refl refl) ∙
-    answer_used (λ o v. (step_or o v k).answer) (λ z. Did (outcome_of (key_does z k))) (λ v. refl) (λ x v. refl) (refusal (step_call w k)) w
+    answer_used (λ o v. (step_or o v k).answer) (λ z. Ok (outcome_of (key_does z k))) (λ v. refl) (λ x v. refl) (refusal (step_call w k)) w
 
 -- what a record that holds a word uses is of the word alone
 held_used : (w : Word) (z : Typed) → Abreast z → used (holding w z) ≡ with_arrays (holding w z) (map number z.state.letters) z.places.appended_by z.places.shaped_by z.keys
@@ -86,7 +82,7 @@ used_used : (w : Word) → used (used w) ≡ used w
 used_used w = λ i. with_arrays w (again w.count w.letters i) (again w.count w.appended_by i) (again w.count w.shaped_by i) (again w.typed w.keys i)
 
 -- a record of which a step is not refused holds as many places of keys as letters, and so does it after the step
-abreast_after : (w : Word) (k : ℕ) → Whole w → refusal (step_call w k) ≡ none → Abreast (type (word_of w) k)
+abreast_after : (w : Word) (k : ℕ) → Whole w → refusal (step_call w k) ≡ None → Abreast (type (word_of w) k)
 abreast_after w k whole e =
     let t = taken w k ((refusal_none (step_call w k)).0 e) in
     let r = in_range w t.range in
@@ -97,8 +93,8 @@ unfolding step
 next_used w k whole = ap (λ (o : Option Refusal). used (step_or o (used w) k).word) (refusal_used w (step_call (used w) k) (step_call w k) refl refl refl) ∙ go (refusal (step_call w k)) refl
   where
     go : (o : Option Refusal) → refusal (step_call w k) ≡ o → used (step_or o (used w) k).word ≡ used (step_or o w k).word
-    go (some x) e = used_used w
-    go none e =
+    go (Some x) e = used_used w
+    go None e =
         let a = abreast_after w k whole e in
         ap (λ (z : Typed). used (holding (used w) (type z k))) (word_used w) ∙ held_used (used w) (type (word_of w) k) a ∙ sym (held_used w (type (word_of w) k) a)
 
@@ -107,26 +103,26 @@ unfolding show
 show_used w out =
     ap₂ (λ (o : Option Refusal) (z : Typed). write_or o (shown z.state) out)
     (refusal_used w (show_call (used w) out) (show_call w out) refl refl
-    (ap (λ (z : Typed). rest (table (record { record? = none; mode? = none; keys? = none; text? = none; room? = some (record { needed = length (shown z.state); there = length out }) }))) (word_used w)))
+    (ap (λ (z : Typed). rest (table (record { record? = None; mode? = None; keys? = None; text? = None; room? = Some (record { needed = length (shown z.state); there = length out }) }))) (word_used w)))
     (word_used w)
 
 place_used : (w : Word) → place_answer (used w) ≡ place_answer w
 unfolding place_answer
 place_used w =
     ap (λ (o : Option Refusal). place_or o (used w)) (refusal_used w (word_call (used w)) (word_call w) refl refl refl) ∙
-    answer_used place_or (λ z. Found (tone_place z.state.letters z.state.tone)) (λ v. refl) (λ x v. refl) (refusal (word_call w)) w
+    answer_used place_or (λ z. Ok (tone_place z.state.letters z.state.tone)) (λ v. refl) (λ x v. refl) (refusal (word_call w)) w
 
 verdict_used : (w : Word) → verdict_answer (used w) ≡ verdict_answer w
 unfolding verdict_answer
 verdict_used w =
     ap (λ (o : Option Refusal). verdict_or o (used w)) (refusal_used w (word_call (used w)) (word_call w) refl refl refl) ∙
-    answer_used verdict_or (λ z. Judged (verdict z.state.letters z.state.tone)) (λ v. refl) (λ x v. refl) (refusal (word_call w)) w
+    answer_used verdict_or (λ z. Ok (verdict z.state.letters z.state.tone)) (λ v. refl) (λ x v. refl) (refusal (word_call w)) w
 
 decision_used : (w : Word) → decision_answer (used w) ≡ decision_answer w
 unfolding decision_answer
 decision_used w =
     ap (λ (o : Option Refusal). decision_or o (used w)) (refusal_used w (word_call (used w)) (word_call w) refl refl refl) ∙
-    answer_used decision_or (λ z. Decided (decision z)) (λ v. refl) (λ x v. refl) (refusal (word_call w)) w
+    answer_used decision_or (λ z. Ok (decision z)) (λ v. refl) (λ x v. refl) (refusal (word_call w)) w
 
 -- two records that agree in counts, marks and used places
 module _ (v w : Word) (agree : used v ≡ used w) where
@@ -160,16 +156,16 @@ unfolding step
 letters_past w k i d = go (refusal (step_call w k))
   where
     go : (o : Option Refusal) → (step_or o w k).word.count ≤ i → get_or (step_or o w k).word.letters i d ≡ get_or w.letters i d
-    go none h = unused (map number (type (word_of w) k).state.letters) w.letters i d (simp length-map h)
-    go (some x) h = refl
+    go None h = unused (map number (type (word_of w) k).state.letters) w.letters i d (simp length-map h)
+    go (Some x) h = refl
 
 pub keys_past : (w : Word) (k i d : ℕ) → (step w k).word.typed ≤ i → get_or (step w k).word.keys i d ≡ get_or w.keys i d
 unfolding step
 keys_past w k i d = go (refusal (step_call w k))
   where
     go : (o : Option Refusal) → (step_or o w k).word.typed ≤ i → get_or (step_or o w k).word.keys i d ≡ get_or w.keys i d
-    go none h = unused (type (word_of w) k).keys w.keys i d h
-    go (some x) h = refl
+    go None h = unused (type (word_of w) k).keys w.keys i d h
+    go (Some x) h = refl
 
 -- and so is a place of a key past the letters
 module _ (w : Word) (k i d : ℕ) (whole : Whole w) where
@@ -178,13 +174,13 @@ module _ (w : Word) (k i d : ℕ) (whole : Whole w) where
   by_past = go (refusal (step_call w k)) refl
     where
       go : (o : Option Refusal) → refusal (step_call w k) ≡ o → (step_or o w k).word.count ≤ i → get_or (step_or o w k).word.appended_by i d ≡ get_or w.appended_by i d
-      go none e h = unused (type (word_of w) k).places.appended_by w.appended_by i d (omega (arith, h, (abreast_after w k whole e).by))
-      go (some x) e h = refl
+      go None e h = unused (type (word_of w) k).places.appended_by w.appended_by i d (omega (arith, h, (abreast_after w k whole e).by))
+      go (Some x) e h = refl
 
   pub shaped_past : (step w k).word.count ≤ i → get_or (step w k).word.shaped_by i d ≡ get_or w.shaped_by i d
   unfolding step
   shaped_past = go (refusal (step_call w k)) refl
     where
       go : (o : Option Refusal) → refusal (step_call w k) ≡ o → (step_or o w k).word.count ≤ i → get_or (step_or o w k).word.shaped_by i d ≡ get_or w.shaped_by i d
-      go none e h = unused (type (word_of w) k).places.shaped_by w.shaped_by i d (omega (arith, h, (abreast_after w k whole e).shaped_by))
-      go (some x) e h = refl
+      go None e h = unused (type (word_of w) k).places.shaped_by w.shaped_by i d (omega (arith, h, (abreast_after w k whole e).shaped_by))
+      go (Some x) e h = refl

@@ -1,7 +1,6 @@
 -- 14 Cards (docs/RULES.md): the cards that are proved, in one list, and lines of the programs with their answers.
-use Rattle.std.specs.Prelude.{Bool, true, false, ◌&&◌, List, [], ◌∷◌, ◌++◌, ℕ, eqb}
+use Rattle.std.specs.Prelude.{Bool, true, false, ◌&&◌, List, [], ◌∷◌, ◌++◌, ℕ, eqb, Option, Some, None}
 use Rattle.std.specs.Bool.{beq}
-use Rattle.std.proofs.Math.Option.{Option, none, some}
 use Prim.Native.String.{String}
 use Rattle.rules.specs.Letters.{telex, vni, characters}
 use Rattle.rules.specs.TakingApart.{verdict}
@@ -12,8 +11,6 @@ use Rattle.rules.specs.CodePoints.{utf8_of, shown}
 use Rattle.rules.specs.Refusals.{same_bytes}
 use Rattle.rules.specs.WhatComesBack.{typed, commit}
 use Rattle.rules.specs.Drill.{newline}
-use Rattle.rules.specs.declared.Place.{Place}
-use Rattle.rules.specs.declared.Place.TheVariants.{At, Nowhere}
 use Rattle.rules.specs.declared.Decision.{Decision}
 use Rattle.rules.specs.declared.Decision.TheVariants.{Keep, Restore}
 
@@ -30,25 +27,25 @@ pub record Card : Type 0 where
   pub closed_is : Option Bool
   pub decision_is : Option Decision
 
-abbrev is_place : Option ℕ → Place → Bool
-is_place none p = true
-is_place (some n) (At m) = eqb m n
-is_place (some n) Nowhere = false
+abbrev is_place : Option ℕ → Option ℕ → Bool
+is_place None p = true
+is_place (Some n) (Some m) = eqb m n
+is_place (Some n) None = false
 
 abbrev is_number : Option ℕ → ℕ → Bool
-is_number none m = true
-is_number (some n) m = eqb m n
+is_number None m = true
+is_number (Some n) m = eqb m n
 
 abbrev is_mark : Option Bool → Bool → Bool
-is_mark none c = true
-is_mark (some b) c = beq b c
+is_mark None c = true
+is_mark (Some b) c = beq b c
 
 abbrev is_decision : Option Decision → Decision → Bool
-is_decision none d = true
-is_decision (some Keep) Keep = true
-is_decision (some Keep) Restore = false
-is_decision (some Restore) Keep = false
-is_decision (some Restore) Restore = true
+is_decision None d = true
+is_decision (Some Keep) Keep = true
+is_decision (Some Keep) Restore = false
+is_decision (Some Restore) Keep = false
+is_decision (Some Restore) Restore = true
 
 abbrev told : Card → Typed → Bool
 told c z =
@@ -68,25 +65,25 @@ every_card [] = true
 every_card (c ∷ cs) = holds c && every_card cs
 
 abbrev pub card : String → String → Option ℕ → Option ℕ → Option Bool → Option Decision → Card
-card keys text v p m d = record { mode = telex; keys = keys; text = text; back = text; verdict_is = v; tone_is = none; place_is = p; closed_is = m; decision_is = d }
+card keys text v p m d = record { mode = telex; keys = keys; text = text; back = text; verdict_is = v; tone_is = None; place_is = p; closed_is = m; decision_is = d }
 
 -- 14.2 The cards that are proved stand in one list.
 abbrev pub starred : List Card
 starred =
-    card "" "" (some 1) none none (some Keep) ∷
-    card "vieejt" "việt" (some 0) (some 2) none (some Keep) ∷
-    card "hoas" "hóa" none (some 1) none none ∷
-    card "hoasn" "hoán" none (some 2) none none ∷
-    card "claus" "claus" (some 2) none none (some Keep) ∷
-    record { mode = telex; keys = "text"; text = "tẽt"; back = "text"; verdict_is = some 7; tone_is = some 4; place_is = some 1; closed_is = none; decision_is = some Restore } ∷
-    card "tesst" "test" none none (some true) (some Keep) ∷
-    card "dod" "đo" none none none none ∷
-    card "nguoiwf" "người" none (some 3) none none ∷
-    card "quas" "quá" none (some 2) none none ∷
-    card "gias" "giá" none (some 2) none none ∷
-    card "aww" "aw" none none (some true) none ∷
-    card "carps" "cáp" none none none none ∷
-    record { mode = vni; keys = "d9uong72"; text = "đường"; back = "đường"; verdict_is = none; tone_is = none; place_is = some 2; closed_is = none; decision_is = none } ∷
+    card "" "" (Some 1) None None (Some Keep) ∷
+    card "vieejt" "việt" (Some 0) (Some 2) None (Some Keep) ∷
+    card "hoas" "hóa" None (Some 1) None None ∷
+    card "hoasn" "hoán" None (Some 2) None None ∷
+    card "claus" "claus" (Some 2) None None (Some Keep) ∷
+    record { mode = telex; keys = "text"; text = "tẽt"; back = "text"; verdict_is = Some 7; tone_is = Some 4; place_is = Some 1; closed_is = None; decision_is = Some Restore } ∷
+    card "tesst" "test" None None (Some true) (Some Keep) ∷
+    card "dod" "đo" None None None None ∷
+    card "nguoiwf" "người" None (Some 3) None None ∷
+    card "quas" "quá" None (Some 2) None None ∷
+    card "gias" "giá" None (Some 2) None None ∷
+    card "aww" "aw" None None (Some true) None ∷
+    card "carps" "cáp" None None None None ∷
+    record { mode = vni; keys = "d9uong72"; text = "đường"; back = "đường"; verdict_is = None; tone_is = None; place_is = Some 2; closed_is = None; decision_is = None } ∷
     []
 
 -- 14.3 Lines of the drill that are proved with their answers: the worked case, and what is refused first where two

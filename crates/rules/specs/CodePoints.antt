@@ -1,11 +1,9 @@
 -- 10 Code points and the shown text (docs/RULES.md): the letters of the alphabet, their UTF-8 bytes, and the text that a word shows.
-use Rattle.std.specs.Prelude.{Bool, true, false, List, [], ◌∷◌, ◌++◌, ℕ, zero, suc, ◌+◌, ◌-◌, ◌/◌, ◌%◌, ltb, get_or}
+use Rattle.std.specs.Prelude.{Bool, true, false, List, [], ◌∷◌, ◌++◌, ℕ, zero, suc, ◌+◌, ◌-◌, ◌/◌, ◌%◌, ltb, get_or, Option, Some, None}
 use Prim.Native.Char.{code}
 use Rattle.rules.specs.Letters.{Letter, Letters, no_tone, named, characters, is}
 use Rattle.rules.specs.TonePlace.{tone_place}
 use Rattle.rules.specs.TheWord.{State}
-use Rattle.rules.specs.declared.Place.{Place}
-use Rattle.rules.specs.declared.Place.TheVariants.{At, Nowhere}
 
 -- 10.1 Twelve vowels, each a base in a shape, have a code point for each of the six tones.
 pub record Vowel : Type 0 where
@@ -87,9 +85,9 @@ tone_at at t [] = []
 tone_at zero t (x ∷ xs) = sign x t ∷ without_tone xs
 tone_at (suc n) t (x ∷ xs) = sign x no_tone ∷ tone_at n t xs
 
-abbrev pub signs_at : Place → ℕ → Letters → List Sign
-signs_at (At n) t w = tone_at n t w
-signs_at Nowhere t w = without_tone w
+abbrev pub signs_at : Option ℕ → ℕ → Letters → List Sign
+signs_at (Some n) t w = tone_at n t w
+signs_at None t w = without_tone w
 
 abbrev pub signs : Letters → ℕ → List Sign
 signs w t = signs_at (tone_place w t) t w

@@ -1,6 +1,5 @@
 -- 12 Drill lines (docs/RULES.md): one line and its answer, and a whole run.
-use Rattle.std.specs.Prelude.{Bool, true, false, List, [], ◌∷◌, ◌++◌, ℕ, ◌+◌, ◌/◌, ◌%◌, eqb, ltb, drop, get_or}
-use Rattle.std.proofs.Math.Option.{Option, none, some}
+use Rattle.std.specs.Prelude.{Bool, true, false, List, [], ◌∷◌, ◌++◌, ℕ, ◌+◌, ◌/◌, ◌%◌, eqb, ltb, drop, get_or, Option, Some, None}
 use Prim.Native.Char.{code}
 use Rattle.rules.specs.Letters.{telex, vni, characters}
 use Rattle.rules.specs.TakingApart.{verdict}
@@ -11,8 +10,6 @@ use Rattle.rules.specs.CodePoints.{shown}
 use Rattle.rules.specs.Refusals.{refusal}
 use Rattle.rules.specs.WhatComesBack.{type_call, typed}
 use Rattle.rules.specs.declared.Refusal.{Refusal}
-use Rattle.rules.specs.declared.Place.{Place}
-use Rattle.rules.specs.declared.Place.TheVariants.{At, Nowhere}
 use Rattle.rules.specs.declared.Decision.{Decision}
 use Rattle.rules.specs.declared.Decision.TheVariants.{Keep, Restore}
 
@@ -35,9 +32,9 @@ abbrev pub or_hyphen : List ℕ → List ℕ
 or_hyphen [] = code "-" ∷ []
 or_hyphen (b ∷ bs) = b ∷ bs
 
-abbrev pub place_column : Place → List ℕ
-place_column (At n) = decimal n
-place_column Nowhere = code "-" ∷ []
+abbrev pub place_column : Option ℕ → List ℕ
+place_column (Some n) = decimal n
+place_column None = code "-" ∷ []
 
 abbrev pub decision_column : Decision → List ℕ
 decision_column Keep = code "K" ∷ []
@@ -73,8 +70,8 @@ refused_line r = columns ((code "!" ∷ []) ∷ decimal r.number ∷ decimal r.v
 
 -- 12.7 The keys of a line are typed as a list, and its answer is that of the word, or of the refusal.
 abbrev pub line_or : (Typed → List ℕ) → Option Refusal → ℕ → List ℕ → List ℕ
-line_or of_word none m ks = of_word (typed m ks)
-line_or of_word (some r) m ks = refused_line r
+line_or of_word None m ks = of_word (typed m ks)
+line_or of_word (Some r) m ks = refused_line r
 
 abbrev pub keys_line : (Typed → List ℕ) → ℕ → List ℕ → List ℕ
 keys_line of_word m ks = line_or of_word (refusal (type_call m ks)) m ks

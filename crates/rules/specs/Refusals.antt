@@ -1,6 +1,5 @@
 -- 1 Refusals (docs/RULES.md): what a refusal can be about, the condition and the number returned of each, and the table in its order.
-use Rattle.std.specs.Prelude.{Bool, true, false, not, ◌&&◌, ◌||◌, List, [], ◌∷◌, ◌++◌, ℕ, suc, ◌+◌, T, eqb, ltb, length, take}
-use Rattle.std.proofs.Math.Option.{Option, none, some}
+use Rattle.std.specs.Prelude.{Bool, true, false, not, ◌&&◌, ◌||◌, List, [], ◌∷◌, ◌++◌, ℕ, suc, ◌+◌, T, eqb, ltb, length, take, Option, Some, None}
 use Rattle.rules.specs.Letters.{Letter, dot, telex, vni, carries}
 use Rattle.rules.specs.TheWord.{most_keys, most_bytes, no_key, letter, number}
 use Rattle.rules.specs.KeyRoles.{is_key, is_small, is_digit}
@@ -201,13 +200,13 @@ pub record TableRow : Type 0 where
 abbrev pub row : ℕ → Bool → ℕ → TableRow
 row n b v = record { number = n; when = b; returned = v }
 
-abbrev pub asks {ℓ} : {A : Type ℓ} → (A → Bool) → Option A → Bool
-asks f none = false
-asks f (some x) = f x
+abbrev pub asks : {A : Type 0} → (A → Bool) → Option A → Bool
+asks f None = false
+asks f (Some x) = f x
 
-abbrev pub value {ℓ} : {A : Type ℓ} → (A → ℕ) → Option A → ℕ
-value f none = 0
-value f (some x) = f x
+abbrev pub value : {A : Type 0} → (A → ℕ) → Option A → ℕ
+value f None = 0
+value f (Some x) = f x
 
 abbrev pub table : Call → List TableRow
 table c =
@@ -224,8 +223,8 @@ table c =
 
 -- 1.2 The refusal is the first row that holds; where no row holds there is none.
 abbrev pub first_row : List TableRow → Option Refusal
-first_row [] = none
-first_row (r ∷ rs) = elim r.when [ true ↦ some (record { number = r.number; value = r.returned }) | false ↦ first_row rs ]
+first_row [] = None
+first_row (r ∷ rs) = elim r.when [ true ↦ Some (record { number = r.number; value = r.returned }) | false ↦ first_row rs ]
 
 unfoldable pub refusal : Call → Option Refusal
 refusal c = first_row (table c)

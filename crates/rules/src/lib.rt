@@ -2,7 +2,7 @@
 // Every rule over them is a definition in specs/, one file for each section of the document.
 #![tactic(auto)]
 
-ghost use Rattle.std.specs.Prelude.{◌≡◌, ◌%◌};
+ghost use Rattle.std.specs.Prelude.{◌≡◌, ◌%◌, Err};
 ghost use Rattle.rules.specs.Letters.{telex, vni, small, is as is_of};
 ghost use Rattle.rules.specs.TheWord.{new_word, letter as letter_of, number};
 ghost use Rattle.rules.specs.KeyRoles.{shaped};
@@ -11,7 +11,8 @@ ghost use Rattle.rules.specs.KeyRoles.{shaped};
 // A letter is one number: its base, 256 times its shape, and 2048 more for a capital.
 // Beside each letter stand the places among the keys, from 0, of the key that appended it and of the last that shaped it, and
 // beside the tone that of the last key that set it; NO_KEY where there is none.
-// Every field is public, so any record can be handed in; what is out of range is refused (refusal 8).
+// Every field is public, so any record can be handed in; what is out of range is refused (refusal 8). So mode and tone are numbers and no
+// enums, and the arrays stand beside their counts: of any numbers the entries say what the rules say, and nothing is allocated.
 #[derive(Clone, Copy)]
 pub struct Word {
     pub mode: u8,
@@ -38,7 +39,7 @@ impl Word {
 
     pub const VNI: u8 = 1;
 
-    // No place of a key: no key shaped the letter, or none set the tone.
+    // No place of a key: no key shaped the letter, or none set the tone. A number, since a place is a byte of the record.
     pub const NO_KEY: u8 = 255;
 
     // A new Telex word.
@@ -59,7 +60,7 @@ impl Word {
         ensures { result ≡ new_word mode }
     {
         Word {
-            mode: mode,
+            mode,
             letters: [0; Word::KEYS],
             appended_by: [0; Word::KEYS],
             shaped_by: [0; Word::KEYS],
@@ -76,7 +77,7 @@ impl Word {
     }
 }
 
-// The shapes of a letter.
+// The shapes of a letter: numbers, since a letter's number holds one, whatever it is.
 pub const PLAIN: u8 = 0;
 
 pub const CIRCUMFLEX: u8 = 1;
@@ -125,7 +126,7 @@ pub fn reshaped(letter: u16, shape: u8) -> u16
     letter % 256 + 256 * ((shape % 8) as u16) + letter / CAPITAL % 2 * CAPITAL
 }
 
-// The tones of a word.
+// The tones of a word: numbers, since a record may hold any.
 pub const NO_TONE: u8 = 0;
 
 pub const ACUTE: u8 = 1;
@@ -139,7 +140,7 @@ pub const TILDE: u8 = 4;
 pub const DOT: u8 = 5;
 
 // What a key is for, in its mode. The three families: tone with clear, vowel shape, stroke.
-#[derive(Clone, Copy)]
+#[derive(Clone, Copy, Debug, PartialEq, Eq)]
 pub enum Role {
     ToneRole(ToneKey),
     ShapeRole(ShapeKey),
@@ -147,14 +148,14 @@ pub enum Role {
     NoRole,
 }
 
-#[derive(Clone, Copy)]
+#[derive(Clone, Copy, Debug, PartialEq, Eq)]
 pub enum ToneKey {
     SetTone(u8),
     ClearTone,
 }
 
 // Telex's circumflex keys stand each for its own letter, VNI's for a, e and o; HornBreve is Telex's w.
-#[derive(Clone, Copy)]
+#[derive(Clone, Copy, Debug, PartialEq, Eq)]
 pub enum ShapeKey {
     CircumflexOn(u8),
     Circumflex,
@@ -164,14 +165,14 @@ pub enum ShapeKey {
 }
 
 // What a key did: acted, and as what; undone; or appended.
-#[derive(Clone, Copy)]
+#[derive(Clone, Copy, Debug, PartialEq, Eq)]
 pub enum Outcome {
     Acted(Act),
     Undone,
     Appended,
 }
 
-#[derive(Clone, Copy)]
+#[derive(Clone, Copy, Debug, PartialEq, Eq)]
 pub enum Act {
     Tone(u8),
     Shape(u8),
@@ -180,94 +181,49 @@ pub enum Act {
 }
 
 // The letters that a key put a shape on or took it off: none, one, or one and the next.
-#[derive(Clone, Copy)]
+#[derive(Clone, Copy, Debug, PartialEq, Eq)]
 pub enum Touched {
     NoLetter,
     OneLetter(usize),
     TwoLetters(usize),
 }
 
-#[derive(Clone, Copy)]
-pub enum Place {
-    At(usize),
-    Nowhere,
-}
-
-#[derive(Clone, Copy)]
+#[derive(Clone, Copy, Debug, PartialEq, Eq)]
 pub enum Decision {
     Keep,
     Restore,
 }
 
-// A refusal: its number in the table, and the number returned.
-#[derive(Clone, Copy)]
+// A refusal: its number in the table, and the number returned. Both are what each entry promises to return (`first_row` in specs/Refusals.antt), and
+// what the programs write and C is given: so a number, and no enum that would be turned into it everywhere.
+#[derive(Clone, Copy, Debug, PartialEq, Eq)]
 pub struct Refusal {
     pub number: u8,
     pub value: usize,
 }
 
-#[derive(Clone, Copy)]
-pub enum StartAnswer {
-    Started,
-    Refused(Refusal),
+// The refusal of any entry.
+pub fn refuse<T>(number: u8, value: usize) -> Result<T, Refusal>
+    ensures { result ≡ Err (record { number = number; value = value }) }
+{
+    Err(Refusal { number, value })
 }
 
+// The answers with a word beside them: a refusal hands back a word too, a new one or the old one, so the word is not in the `Ok`.
 #[derive(Drop)]
 pub struct Start {
-    pub answer: StartAnswer,
+    pub answer: Result<(), Refusal>,
     pub word: Word,
-}
-
-#[derive(Clone, Copy)]
-pub enum StepAnswer {
-    Did(Outcome),
-    Refused(Refusal),
 }
 
 #[derive(Drop)]
 pub struct Step {
-    pub answer: StepAnswer,
+    pub answer: Result<Outcome, Refusal>,
     pub word: Word,
-}
-
-#[derive(Clone, Copy)]
-pub enum TypeAnswer {
-    AllTyped,
-    Refused(Refusal),
 }
 
 #[derive(Drop)]
 pub struct TypeAll {
-    pub answer: TypeAnswer,
+    pub answer: Result<(), Refusal>,
     pub word: Word,
-}
-
-#[derive(Clone, Copy)]
-pub enum WriteAnswer {
-    Wrote(usize),
-    Refused(Refusal),
-}
-
-#[derive(Clone, Copy)]
-pub enum PlaceAnswer {
-    Found(Place),
-    Refused(Refusal),
-}
-
-#[derive(Clone, Copy)]
-pub enum VerdictAnswer {
-    Judged(u8),
-    Refused(Refusal),
-}
-
-#[derive(Clone, Copy)]
-pub enum DecisionAnswer {
-    Decided(Decision),
-    Refused(Refusal),
-}
-
-#[derive(Clone, Copy)]
-pub enum CommitAnswer {
-    Granted,
-    Refused(Refusal),
 }

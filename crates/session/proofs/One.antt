@@ -15,7 +15,7 @@ use Rattle.rules.specs.declared.Word.{Word}
 use Rattle.rules.specs.declared.Refusal.{Refusal}
 use Rattle.rules.proofs.Refused.{refused_step}
 use Rattle.session.specs.Sessions.{session_of}
-use Rattle.session.specs.contracts.type_key as type-key
+use Rattle.session.specs.contracts.Session.type_key as type-key
 
 -- what the `ensures` states, as a plain fact, and that it is what the contract states in every model
 abbrev pub KeyPost : (κs : Lfts 1) → Args type-key.signature κs → Res type-key.signature κs → AtExit type-key.ended κs → Type 0

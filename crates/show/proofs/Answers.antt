@@ -1,4 +1,5 @@
 -- The answers of text and of show by their tests: refused, or the text put into the output.
+use Rattle.std.specs.Prelude.{Ok, Err}
 use mathlib.Core.Path.{◌≡◌, sym, ap, ◌∙◌}
 use mathlib.Core.Bool.{Bool, true, false}
 use mathlib.Core.List.{List, [], map}
@@ -12,7 +13,6 @@ use Rattle.rules.specs.CodePoints.{shown}
 use Rattle.rules.specs.Refusals.{out_of_range, refusal}
 use Rattle.rules.specs.WhatComesBack.{show}
 use Rattle.rules.specs.declared.Word.{Word}
-use Rattle.rules.specs.declared.WriteAnswer.TheVariants.{Wrote, Refused}
 use Rattle.rules.proofs.StaysInRange.{read_front}
 use Rattle.rules.proofs.Range.{few_letters}
 use Rattle.output.specs.Front.{put}
@@ -21,7 +21,7 @@ use Rattle.show.proofs.Fills.{three_each}
 use Rattle.show.proofs.Texts.{text_of_law}
 
 module _ (ns : List ℕ) (t : ℕ) (out : List ℕ) where
-  pub too_many : most_keys < length ns → text_out ns t out ≡ record { answer = Refused (record { number = 2; value = most_keys }); output = out }
+  pub too_many : most_keys < length ns → text_out ns t out ≡ record { answer = Err (record { number = 2; value = most_keys }); output = out }
   unfolding text_out
   too_many h = simp (lt-ltb most_keys (length ns) h)
 
@@ -51,7 +51,7 @@ module _ (ns : List ℕ) (t : ℕ) (out : List ℕ) where
       pub at_most_96 : n ≤ most_bytes
       at_most_96 = omega (arith, long, three_each (tone_place (map letter ns) t) t 0 ns)
 
-      pub made_there : (after : List ℕ) → after ≡ at_front (room_text ns t out) out → text_out ns t out ≡ record { answer = Wrote n; output = after }
+      pub made_there : (after : List ℕ) → after ≡ at_front (room_text ns t out) out → text_out ns t out ≡ record { answer = Ok n; output = after }
       unfolding put refusal
       made_there after b =
           let made = b ∙ ap (λ (l : List ℕ). at_front l out) (sym (in_room room)) in
@@ -59,14 +59,13 @@ module _ (ns : List ℕ) (t : ℕ) (out : List ℕ) where
 
 -- else it is made in a buffer, and its front put
 pub put_so : (ns : List ℕ) (t : ℕ) (out old buffer : List ℕ) (n : ℕ) → length ns ≤ most_keys → most_bytes ≤ length old → n ≡ length (room_text ns t old) → buffer ≡ at_front (room_text ns t old) old
-    → put (take (n - 0) buffer) out ≡ text_out ns t out
+    → put (take n buffer) out ≡ text_out ns t out
 put_so ns t out old buffer n few room many b =
-    let m : length (room_text ns t old) ≡ n - 0 = omega arith in
-    ap (λ (l : List ℕ). put l out) (ap (take (n - 0)) b ∙ read_front (room_text ns t old) old (n - 0) m ∙ sym (in_room ns t old few room)) ∙ sym (few_enough ns t out few)
+    ap (λ (l : List ℕ). put l out) (ap (take n) b ∙ read_front (room_text ns t old) old n (sym many) ∙ sym (in_room ns t old few room)) ∙ sym (few_enough ns t out few)
 
 -- of a word, by what is answered on its range
 module _ (w : Word) (out : List ℕ) {r : Bool} (asked : r ≡ out_of_range w) where
-  pub refused : r ≡ true → show w out ≡ record { answer = Refused (record { number = 8; value = 0 }); output = out }
+  pub refused : r ≡ true → show w out ≡ record { answer = Err (record { number = 8; value = 0 }); output = out }
   unfolding show refusal
   refused e = rw (sym asked, e)
 
@@ -81,8 +80,11 @@ module _ (w : Word) (out : List ℕ) {r : Bool} (asked : r ≡ out_of_range w) w
     pub few : w.count ≤ most_keys
     few = few_letters w in_range
 
-    pub shown_so : text_out (take (w.count - 0) w.letters) w.tone out ≡ show w out
-    shown_so =
-        let m : w.count - 0 ≡ w.count = omega arith in
+    pub shown_word : text_out (take w.count w.letters) w.tone out ≡ show w out
+    shown_word =
         let short : length (take w.count w.letters) ≤ most_keys = simp length-take (omega (arith, few)) in
-        ap (λ (n : ℕ). text_out (take n w.letters) w.tone out) m ∙ few_enough (take w.count w.letters) w.tone out short ∙ ap (λ (l : List ℕ). put l out) (text_of_law w in_range) ∙ sym put_in
+        few_enough (take w.count w.letters) w.tone out short ∙ ap (λ (l : List ℕ). put l out) (text_of_law w in_range) ∙ sym put_in
+
+    -- the same of letters that are taken from the first on
+    pub shown_so : text_out (take (w.count - 0) w.letters) w.tone out ≡ show w out
+    shown_so = let m : w.count - 0 ≡ w.count = omega arith in ap (λ (n : ℕ). text_out (take n w.letters) w.tone out) m ∙ shown_word

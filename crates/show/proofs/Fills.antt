@@ -1,4 +1,5 @@
 -- One turn of the loop that makes a text, and its end: what is written and what is still to come are together the whole text.
+use Rattle.std.specs.Prelude.{Option}
 use mathlib.Core.Path.{◌≡◌, refl, sym, ap, ap₂, ◌∙◌}
 use mathlib.Core.Bool.{Bool, true, false, ◌&&◌}
 use mathlib.Core.List.{List, [], ◌∷◌, ◌++◌, append-nil, append_assoc}
@@ -10,7 +11,6 @@ use lib.Seq.{sets, sets-eq, length-sets, length-take-le, take_at, drop_at, drop-
 use Rattle.rules.specs.Letters.{vni}
 use Rattle.rules.specs.TheWord.{letter, at_front}
 use Rattle.rules.specs.CodePoints.{sign, point, utf8}
-use Rattle.rules.specs.declared.Place.{Place}
 use Rattle.letters.specs.Writing.{is_letter, tone_stands, letter_bytes}
 use Rattle.show.specs.Filling.{tone_on, text_from}
 
@@ -31,7 +31,7 @@ three_at_most n t = go (is_letter vni n && tone_stands n t)
     go true = utf8_short (point (sign (letter n) t))
     go false = lit≤ tt
 
-pub three_each : (p : Place) (t i : ℕ) (ns : List ℕ) → length (text_from p t i ns) ≤ 3 * length ns
+pub three_each : (p : Option ℕ) (t i : ℕ) (ns : List ℕ) → length (text_from p t i ns) ≤ 3 * length ns
 three_each p t i [] = omega arith
 three_each p t i (n ∷ ns) =
     let here = three_at_most n (tone_on p t i) in
@@ -39,14 +39,14 @@ three_each p t i (n ∷ ns) =
     simp length-append (omega arith)
 
 -- so far: the text in front, the rest as it was
-pub record SoFar (p : Place) (t : ℕ) (letters old : List ℕ) (i at : ℕ) (text : List ℕ) : Type 0 where
+pub record SoFar (p : Option ℕ) (t : ℕ) (letters old : List ℕ) (i at : ℕ) (text : List ℕ) : Type 0 where
   pub passed : i ≤ length letters
   pub within : at ≤ 3 * i
   pub long : length text ≡ length old
   pub front : take at text ++ text_from p t i (drop i letters) ≡ text_from p t 0 letters
   pub rest : drop at text ≡ drop at old
 
-module _ (p : Place) (t : ℕ) (letters old : List ℕ) where
+module _ (p : Option ℕ) (t : ℕ) (letters old : List ℕ) where
   pub begun : SoFar p t letters old 0 0 old
   begun = record { passed = omega arith; within = omega arith; long = refl; front = refl; rest = refl }
 

@@ -18,7 +18,7 @@ in_room_one κs a r r' e e' p p' = (p.0 ∙ sym p'.0, p.1 ∙ sym p'.1)
 pub text_one : (κs : Lfts 2) (a : Args text.signature κs) (r r' : Res text.signature κs) (e e' : AtExit text.ended κs) → text-reads.Post κs a r e → text-reads.Post κs a r' e' → (r ≡ r') × (e.1.1.0.now ≡ e'.1.1.0.now)
 text_one κs a r r' e e' p p' = (p.0 ∙ sym p'.0, p.1 ∙ sym p'.1)
 
-pub show_in_one : (κs : Lfts 5) (a : Args show-in.signature κs) (r r' : Res show-in.signature κs) (e e' : AtExit show-in.ended κs) → show-in-reads.Post κs a r e → show-in-reads.Post κs a r' e' → (r ≡ r') × (e.1.1.1.1.1.1.1.0.now ≡ e'.1.1.1.1.1.1.1.0.now)
+pub show_in_one : (κs : Lfts 2) (a : Args show-in.signature κs) (r r' : Res show-in.signature κs) (e e' : AtExit show-in.ended κs) → show-in-reads.Post κs a r e → show-in-reads.Post κs a r' e' → (r ≡ r') × (e.1.0.now ≡ e'.1.0.now)
 show_in_one κs a r r' e e' p p' = (p.0 ∙ sym p'.0, p.1 ∙ sym p'.1)
 
 pub show_one : (κs : Lfts 1) (a : Args show.signature κs) (r r' : Res show.signature κs) (e e' : AtExit show.ended κs) → show-reads.Post κs a r e → show-reads.Post κs a r' e' → (r ≡ r') × (e.1.0.now ≡ e'.1.0.now)

@@ -1,4 +1,5 @@
 -- What the code makes of a record in range is the text that the rules say its word shows.
+use Rattle.std.specs.Prelude.{Option, Some, None}
 use mathlib.Core.Path.{◌≡◌, refl, sym, ap, ap₂, subst, ◌∙◌}
 use mathlib.Core.Bool.{Bool, true, false, not, ◌&&◌, ◌||◌}
 use mathlib.Core.List.{List, [], ◌∷◌, ◌++◌, map}
@@ -16,8 +17,6 @@ use Rattle.rules.specs.KeyRoles.{is_small, is_digit}
 use Rattle.rules.specs.CodePoints.{sign, point, utf8, bytes, without_tone, tone_at, signs_at, shown}
 use Rattle.rules.specs.Refusals.{all, all_letters, letter_allowed, shape_carried, no_capital_digit, out_of_range}
 use Rattle.rules.specs.declared.Word.{Word}
-use Rattle.rules.specs.declared.Place.{Place}
-use Rattle.rules.specs.declared.Place.TheVariants.{At, Nowhere}
 use Rattle.rules.proofs.Tests.{or_r}
 use Rattle.rules.proofs.Numbers.{NumbersInRange}
 use Rattle.rules.proofs.Range.{in_range}
@@ -39,7 +38,7 @@ as_bytes n t l s = if_both (is_letter vni n) (tone_stands n t) (utf8 (point (sig
 no_tone_stands : (n : ℕ) → T (tone_stands n no_tone)
 no_tone_stands n = tt
 
-without : (p : Place) (t i : ℕ) (ns : List ℕ) → T (all (is_letter vni) ns) → ((k : ℕ) → i ≤ k → tone_on p t k ≡ no_tone) → text_from p t i ns ≡ bytes (without_tone (map letter ns))
+without : (p : Option ℕ) (t i : ℕ) (ns : List ℕ) → T (all (is_letter vni) ns) → ((k : ℕ) → i ≤ k → tone_on p t k ≡ no_tone) → text_from p t i ns ≡ bytes (without_tone (map letter ns))
 without p t i [] l off = refl
 without p t i (n ∷ ns) l off =
     ap₂ ◌++◌
@@ -55,21 +54,21 @@ module _ (t : ℕ) (most : t ≤ dot) where
       go true e s = s
       go false e s = let z : ◌≡◌ {A = ℕ} 0 1 = cc in absurd (omega arith)
 
-  toned : (i k : ℕ) (ns : List ℕ) → T (all (is_letter vni) ns) → T (vowel_at k (map letter ns)) → text_from (At (i + k)) t i ns ≡ bytes (tone_at k t (map letter ns))
+  toned : (i k : ℕ) (ns : List ℕ) → T (all (is_letter vni) ns) → T (vowel_at k (map letter ns)) → text_from (Some (i + k)) t i ns ≡ bytes (tone_at k t (map letter ns))
   toned i k [] l v = absurd v
   toned i zero (n ∷ ns) l v =
       ap₂ ◌++◌
       (ap (λ (b : Bool). letter_bytes n (tone_if b t)) (eq-eqb i (i + 0) (omega arith)) ∙ as_bytes n t (and_l (is_letter vni n) (all (is_letter vni) ns) l) (on_vowel n v))
-      (without (At (i + 0)) t (suc i) ns (and_r (is_letter vni n) (all (is_letter vni) ns) l) (λ k h. ap (λ (b : Bool). tone_if b t) (ne_eqb k (i + 0) (λ e. omega arith))))
+      (without (Some (i + 0)) t (suc i) ns (and_r (is_letter vni n) (all (is_letter vni) ns) l) (λ k h. ap (λ (b : Bool). tone_if b t) (ne_eqb k (i + 0) (λ e. omega arith))))
   toned i (suc k) (n ∷ ns) l v =
       let e : i + suc k ≡ suc i + k = omega arith in
       ap₂ ◌++◌
       (ap (λ (b : Bool). letter_bytes n (tone_if b t)) (ne_eqb i (i + suc k) (λ e. omega arith)) ∙ as_bytes n no_tone (and_l (is_letter vni n) (all (is_letter vni) ns) l) (no_tone_stands n))
-      (ap (λ (m : ℕ). text_from (At m) t (suc i) ns) e ∙ toned (suc i) k ns (and_r (is_letter vni n) (all (is_letter vni) ns) l) v)
+      (ap (λ (m : ℕ). text_from (Some m) t (suc i) ns) e ∙ toned (suc i) k ns (and_r (is_letter vni n) (all (is_letter vni) ns) l) v)
 
-  signed : (p : Place) (ns : List ℕ) → T (all (is_letter vni) ns) → ((k : ℕ) → p ≡ At k → T (vowel_at k (map letter ns))) → text_from p t 0 ns ≡ bytes (signs_at p t (map letter ns))
-  signed (At k) ns l v = let e : k ≡ 0 + k = omega arith in ap (λ (m : ℕ). text_from (At m) t 0 ns) e ∙ toned 0 k ns l (v k refl)
-  signed Nowhere ns l v = without Nowhere t 0 ns l (λ k h. refl)
+  signed : (p : Option ℕ) (ns : List ℕ) → T (all (is_letter vni) ns) → ((k : ℕ) → p ≡ Some k → T (vowel_at k (map letter ns))) → text_from p t 0 ns ≡ bytes (signs_at p t (map letter ns))
+  signed (Some k) ns l v = let e : k ≡ 0 + k = omega arith in ap (λ (m : ℕ). text_from (Some m) t 0 ns) e ∙ toned 0 k ns l (v k refl)
+  signed None ns l v = without None t 0 ns l (λ k h. refl)
 
 -- what a word of either mode can hold, a VNI word can
 allowed_vni : (mode n : ℕ) → T (letter_allowed mode n) → T (letter_allowed vni n)

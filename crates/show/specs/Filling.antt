@@ -1,30 +1,27 @@
 -- The text of letters' numbers, made letter by letter, each with its tone, and what comes back of it with a lent output. The crate's proofs show that for a word in range it is what `shown` says.
-use Rattle.std.specs.Prelude.{Bool, true, false, ◌||◌, List, [], ◌∷◌, ◌++◌, map, ℕ, suc, eqb, ltb, length}
+use Rattle.std.specs.Prelude.{Bool, true, false, ◌||◌, List, [], ◌∷◌, ◌++◌, map, ℕ, suc, eqb, ltb, length, Option, Some, None, Err}
 use Rattle.rules.specs.Letters.{no_tone}
 use Rattle.rules.specs.TheWord.{letter, most_keys, most_bytes}
 use Rattle.rules.specs.TonePlace.{tone_place}
 use Rattle.rules.specs.WhatComesBack.{Written}
 use Rattle.letters.specs.Writing.{letter_bytes}
 use Rattle.output.specs.Front.{put}
-use Rattle.rules.specs.declared.Place.{Place}
-use Rattle.rules.specs.declared.Place.TheVariants.{At, Nowhere}
-use Rattle.rules.specs.declared.WriteAnswer.TheVariants.{Refused}
 
 -- the tone, or none; and so on the letter at a place of the word
 abbrev pub tone_if : Bool → ℕ → ℕ
 tone_if b t = elim b [ true ↦ t | false ↦ no_tone ]
 
-abbrev pub tone_on : Place → ℕ → ℕ → ℕ
-tone_on (At n) t i = tone_if (eqb i n) t
-tone_on Nowhere t i = no_tone
+abbrev pub tone_on : Option ℕ → ℕ → ℕ → ℕ
+tone_on (Some n) t i = tone_if (eqb i n) t
+tone_on None t i = no_tone
 
 -- the place as a number, behind the last letter where there is none
-abbrev pub toned_at : Place → ℕ → ℕ
-toned_at (At i) n = i
-toned_at Nowhere n = n
+abbrev pub toned_at : Option ℕ → ℕ → ℕ
+toned_at (Some i) n = i
+toned_at None n = n
 
 -- the bytes of letters' numbers, the first of which stands at place i of the word
-abbrev pub text_from : Place → ℕ → ℕ → List ℕ → List ℕ
+abbrev pub text_from : Option ℕ → ℕ → ℕ → List ℕ → List ℕ
 text_from p t i [] = []
 text_from p t i (n ∷ ns) = letter_bytes n (tone_on p t i) ++ text_from p t (suc i) ns
 
@@ -38,7 +35,7 @@ room_text ns t out = elim (ltb most_keys (length ns) || ltb (length out) most_by
 
 -- put into the output; of more than 32 letters there is none, refusal 2 with 32
 abbrev pub text_unless : Bool → List ℕ → ℕ → List ℕ → Written
-text_unless true ns t out = record { answer = Refused (record { number = 2; value = most_keys }); output = out }
+text_unless true ns t out = record { answer = Err (record { number = 2; value = most_keys }); output = out }
 text_unless false ns t out = put (text_of ns t) out
 
 unfoldable pub text_out : List ℕ → ℕ → List ℕ → Written

@@ -7,13 +7,11 @@ ghost use Rattle.rules.specs.TheWord.{letter, at_front};
 ghost use Rattle.rules.specs.WhatComesBack.{show as show_of};
 ghost use Rattle.rules.specs.TonePlace.{tone_place};
 ghost use Rattle.letters.specs.Writing.{bytes_if, letter_bytes};
-ghost use Rattle.records.specs.Numbers.{word_in};
 ghost use Rattle.show.specs.Filling.{tone_if, toned_at, text_from, room_text, text_out};
 
-use records::Numbers;
-use rules::{NO_TONE, Place, Refusal, Word, WriteAnswer};
+use rules::{NO_TONE, Refusal, Word, refuse};
 
-// The UTF-8 bytes of a code point from a place of the text on; the place after them. No code point (0) shows nothing.
+// The UTF-8 bytes of a code point from a place of the text on; the place after them. No code point (0) shows nothing. Stored byte by byte: an enum of the bytes between cost 14 instructions a key.
 fn put_point(text: &mut [u8], at: usize, point: u16) -> usize
     requires { at + 3 ≤ length text.old }
     ensures { (result ≡ at + length (bytes_if point)) × (text.new ≡ sets text.old at (bytes_if point)) }
@@ -68,7 +66,7 @@ fn toned(letters: &[u16], tone: u8) -> usize
         return n;
     }
     let place = parts::tone_place(letters, tone);
-    let Place::At(at) = place else {
+    let Some(at) = place else {
         return n;
     };
     at
@@ -77,13 +75,11 @@ fn toned(letters: &[u16], tone: u8) -> usize
 // The bytes of the letters, with the tone on the one at its place, at the front of the text; how many they are.
 fn fill(text: &mut [u8], letters: &[u16], toned: usize, tone: u8) -> usize
     requires { 3 * length letters.now ≤ length text.old }
-    ensures { (result ≡ length (text_from (Place.At toned) tone 0 letters.now)) × (text.new ≡ at_front (text_from (Place.At toned) tone 0 letters.now) text.old) }
+    ensures { (result ≡ length (text_from (Some toned) tone 0 letters.now)) × (text.new ≡ at_front (text_from (Some toned) tone 0 letters.now) text.old) }
 {
     let mut at = 0;
-    let mut i = 0;
-    while i < letters.len() {
-        at = put_letter(text, at, letters[i], i == toned, tone);
-        i += 1;
+    for (i, &letter) in letters.iter().enumerate() {
+        at = put_letter(text, at, letter, i == toned, tone);
     }
     at
 }
@@ -104,64 +100,34 @@ pub fn in_room(letters: &[u16], tone: u8, out: &mut [u8]) -> usize
 
 // The text of letters with the tone on the one at its place, at the front of the output. A number that is no letter shows nothing.
 // Refusals: 2 with 32 where there are more than 32 letters, then 4 with the bytes needed; the output is then as it was.
-pub fn text(letters: &[u16], tone: u8, out: &mut [u8]) -> WriteAnswer
+pub fn text(letters: &[u16], tone: u8, out: &mut [u8]) -> Result<usize, Refusal>
     ensures { (result ≡ (text_out letters.now tone out.old).answer) × (out.new ≡ (text_out letters.now tone out.old).output) }
 {
     if Word::KEYS < letters.len() {
-        return WriteAnswer::Refused(Refusal {
-            number: 2,
-            value: Word::KEYS,
-        });
+        return refuse(2, Word::KEYS);
     }
     // With room for any text it is made where it is to stand; else it is made first, and its length then known.
     if Word::TEXT <= out.len() {
-        return WriteAnswer::Wrote(in_room(letters, tone, out));
+        return Ok(in_room(letters, tone, out));
     }
     let mut made = [0; Word::TEXT];
     let needed = in_room(letters, tone, &mut made);
-    output::write(&made[0..needed], out)
+    output::write(&made[..needed], out)
 }
 
-// The text of a word whose arrays are lent, at the front of the output. Refusals: 8, then 4 with the bytes needed; the output is then as it was.
-pub fn show_in(
-    letters: &[u16; Word::KEYS],
-    appended_by: &[u8; Word::KEYS],
-    shaped_by: &[u8; Word::KEYS],
-    keys: &[u8; Word::KEYS],
-    toned_by: u8,
-    mode: u8,
-    n: Numbers,
-    out: &mut [u8],
-) -> WriteAnswer
-    ensures { (result ≡ (show_of (word_in mode letters.now appended_by.now shaped_by.now keys.now toned_by n) out.old).answer) × (out.new ≡ (show_of (word_in mode letters.now appended_by.now shaped_by.now keys.now toned_by n) out.old).output) }
+// The text of a word that is lent, at the front of the output. Refusals: 8, then 4 with the bytes needed; the output is then as it was.
+pub fn show_in(w: &Word, out: &mut [u8]) -> Result<usize, Refusal>
+    ensures { (result ≡ (show_of w.now out.old).answer) × (out.new ≡ (show_of w.now out.old).output) }
 {
-    if records::lent_out_of_range(letters, appended_by, shaped_by, keys, toned_by, mode, n) {
-        return WriteAnswer::Refused(Refusal {
-            number: 8,
-            value: 0,
-        });
+    if records::lent_out_of_range(w) {
+        return refuse(8, 0);
     }
-    let count = n.count as usize;
-    let held = &letters[..];
-    text(&held[0..count], n.tone, out)
+    text(&w.letters[..w.count as usize], w.tone, out)
 }
 
-// The same of a record. Its arrays are lent.
-pub fn show(w: Word, out: &mut [u8]) -> WriteAnswer
+// The same of a record.
+pub fn show(w: Word, out: &mut [u8]) -> Result<usize, Refusal>
     ensures { (result ≡ (show_of w out.old).answer) × (out.new ≡ (show_of w out.old).output) }
 {
-    let letters = w.letters;
-    let appended_by = w.appended_by;
-    let shaped_by = w.shaped_by;
-    let keys = w.keys;
-    show_in(
-        &letters,
-        &appended_by,
-        &shaped_by,
-        &keys,
-        w.toned_by,
-        w.mode,
-        records::numbers_of(w),
-        out,
-    )
+    show_in(&w, out)
 }

@@ -1,8 +1,9 @@
 -- The answers by their tests: each refusal is the row of its test, and past them all the standard keys are written.
+use Rattle.std.specs.Prelude.{Result}
 use mathlib.Core.Path.{◌≡◌, sym, ap, ap₂, subst, ◌∙◌}
 use mathlib.Core.Bool.{true, false, not}
 use mathlib.Core.List.{List, map}
-use Prim.Native.Nat.{ℕ, ◌+◌, ◌-◌, ◌*◌, ◌≤◌, ◌<◌}
+use Prim.Native.Nat.{ℕ, ◌+◌, ◌*◌, ◌≤◌, ◌<◌}
 use native.Mathlib.Omega.{arith}
 use lib.Dec.{T}
 use lib.ListN.{length, take}
@@ -14,30 +15,30 @@ use Rattle.rules.specs.CodePoints.{Sign}
 use Rattle.rules.specs.Speller.{read, stuck_at, reading, letters_in, fault, standard_keys, spelled}
 use Rattle.rules.specs.Refusals.{is_mode, refusal}
 use Rattle.rules.specs.WhatComesBack.{Written, spell}
-use Rattle.rules.specs.declared.WriteAnswer.{WriteAnswer}
 use Rattle.output.specs.Front.{put}
 use Rattle.speller.specs.declared.ReadSoFar.{ReadSoFar}
 use Rattle.speller.specs.TextRead.{have_capitals, ReadInto, refused_write}
+use Rattle.rules.specs.declared.Refusal.{Refusal}
 
--- the letters that are read: the part of the array from 0 on is its front
+-- the letters that are read: the front of the array
 module _ {text ns : List ℕ} {r : ReadSoFar} (into : ReadInto text ns r) where
   abbrev part : List ℕ
-  part = take (r.count - 0) ns
+  part = take r.count ns
 
   pub letters_are : map letter part ≡ letters_in into.so_far.signs
-  letters_are = let e : r.count - 0 ≡ r.count = omega arith in ap (λ (n : ℕ). map letter (take n ns)) e ∙ into.so_far.letters
+  letters_are = into.so_far.letters
 
   pub with_capitals : T (have_capitals (map letter part))
   with_capitals = subst (λ (w : Letters). T (have_capitals w)) (sym letters_are) into.so_far.capitals
 
   pub few_letters : length ns ≡ most_bytes → length text ≤ most_bytes → 2 * length part < 2 * most_bytes + 1
-  few_letters e h = omega (arith, length-take-le (r.count - 0) ns (omega (arith, into.so_far.fewer, into.so_far.within)), into.so_far.fewer, into.so_far.within)
+  few_letters e h = omega (arith, length-take-le r.count ns (omega (arith, into.so_far.fewer, into.so_far.within)), into.so_far.fewer, into.so_far.within)
 
 -- a refusal leaves the output as it was
 abbrev unwritten : ℕ → ℕ → List ℕ → Written
 unwritten n v out = record { answer = refused_write n v; output = out }
 
-pub refuses : {w : Written} {n v : ℕ} {out : List ℕ} {a : WriteAnswer} → a ≡ refused_write n v → w ≡ unwritten n v out → (a ≡ w.answer) × (out ≡ w.output)
+pub refuses : {w : Written} {n v : ℕ} {out : List ℕ} {a : Result ℕ Refusal} → a ≡ refused_write n v → w ≡ unwritten n v out → (a ≡ w.answer) × (out ≡ w.output)
 refuses e k = (e ∙ sym (ap (λ (x : Written). x.answer) k), sym (ap (λ (x : Written). x.output) k))
 
 module _ (m : ℕ) (text out : List ℕ) where
@@ -73,8 +74,7 @@ module _ (m : ℕ) (out : List ℕ) {text ns : List ℕ} {r : ReadSoFar} (e : no
     pub faulty : (v ≡ 0 → ⊥) → spell m text out ≡ unwritten 7 v out
     faulty n = no_syllable m text out e h into.so_far.signs (into.whole l) (λ z. n (k ∙ z)) ∙ ap (λ (x : ℕ). unwritten 7 x out) (sym k)
 
-    pub spelt : v ≡ 0 → (needed : ℕ) (keys : List ℕ) → take needed keys ≡ standard_keys m (map letter (take (r.count - 0) ns)) r.tone → put (take (needed - 0) keys) out ≡ spell m text out
-    spelt z needed keys q =
-        let front : needed - 0 ≡ needed = omega arith in
-        ap (λ (ks : List ℕ). put ks out) (ap (λ (n : ℕ). take n keys) front ∙ q ∙ ap₂ (standard_keys m) (letters_are into) (ap (λ (x : ReadSoFar). x.tone) into.so_far.held)) ∙
+    pub spelt : v ≡ 0 → {keys : List ℕ} → keys ≡ standard_keys m (map letter (take r.count ns)) r.tone → put keys out ≡ spell m text out
+    spelt z q =
+        ap (λ (ks : List ℕ). put ks out) (q ∙ ap₂ (standard_keys m) (letters_are into) (ap (λ (x : ReadSoFar). x.tone) into.so_far.held)) ∙
         sym (written m text out e h into.so_far.signs (into.whole l) (sym k ∙ z))

@@ -1,38 +1,22 @@
 -- The key list as it is put together: a key of a table, the keys of one letter and what is left to put, the tone key last.
-use mathlib.Core.Path.{◌≡◌, refl, sym, ap, ◌∙◌}
-use mathlib.Core.Bool.{Bool, true, false, ◌&&◌, ◌||◌}
+use mathlib.Core.Path.{◌≡◌, sym, ap, ◌∙◌}
+use mathlib.Core.Bool.{Bool, true, false, ◌||◌}
 use mathlib.Core.List.{List, [], ◌∷◌, ◌++◌, map, append_assoc, append-nil}
-use Prim.Native.Nat.{ℕ, zero, suc, ◌+◌, ◌≤◌, ◌<◌}
-use Prim.Native.Char.{code}
+use Prim.Native.Nat.{ℕ, zero, suc, ◌+◌, ◌*◌, ◌≤◌, ◌<◌}
 use native.Mathlib.Numerals.{add-one}
 use native.Mathlib.Omega.{arith}
-use lib.Dec.{T, eqb, ltb}
-use lib.ListN.{length, take, drop, set, get_or, length-set, drop_of_length-le}
-use lib.Seq.{drop-cons, take-suc-set}
+use lib.Dec.{T, eqb, ltb, lit≤}
+use lib.ListN.{length, take, drop, get_or, drop_of_length-le}
+use lib.Seq.{drop-cons}
 use lib.Ieee.Fits.{and_l, and_r}
-use borrow.Author.Tests.{ltb-true, eq-eqb, ne_eqb}
-use Rattle.rules.proofs.Arms.{NoneOf}
+use borrow.Author.Tests.{ltb-true, ne_eqb}
 use Rattle.rules.proofs.Tests.{is_true}
-use Rattle.rules.specs.Letters.{Letters, plain, horn, no_tone, telex, small, is}
+use Rattle.rules.specs.Letters.{Letter, Letters, plain, no_tone}
 use Rattle.rules.specs.TheWord.{letter}
-use Rattle.rules.specs.Speller.{key_for, key_of_letter, shape_key, letter_keys, tone_key, tone_keys, standard_keys}
-use Rattle.speller.specs.TextRead.{have_capitals, keys_from, first_awaits_o}
-
--- a number that a table of keys does not have
-abbrev pub marks : List (ℕ × ℕ) → List ℕ
-marks [] = []
-marks (x ∷ xs) = x.0 ∷ marks xs
-
-pub no_key : (n : ℕ) (xs : List (ℕ × ℕ)) → NoneOf n (marks xs) → 0 ≡ key_for xs n
-no_key n [] h = refl
-no_key n (x ∷ xs) h = rw (key_for, ne_eqb n x.0 h.0) (no_key n xs h.1)
-
--- a key by the mode's table
-pub in_telex : {k a : ℕ} (mode b : ℕ) → mode ≡ telex → k ≡ a → k ≡ elim (eqb mode telex) [ true ↦ a | false ↦ b ]
-in_telex {a = a} mode b e h = h ∙ sym (ap (λ (c : Bool). elim c [ true ↦ a | false ↦ b ]) (eq-eqb mode telex e))
-
-pub in_vni : {k b : ℕ} (mode a : ℕ) → (mode ≡ telex → ⊥) → k ≡ b → k ≡ elim (eqb mode telex) [ true ↦ a | false ↦ b ]
-in_vni {b = b} mode a n h = h ∙ sym (ap (λ (c : Bool). elim c [ true ↦ a | false ↦ b ]) (ne_eqb mode telex n))
+use Rattle.rules.specs.Speller.{key_of_letter, shape_key, awaits_o, keys_after, letter_keys, tone_key, tone_keys, standard_keys}
+use Rattle.speller.specs.TextRead.{have_capitals}
+use Rattle.speller.specs.KeysPut.{Puts, held}
+use Rattle.speller.specs.declared.key_list.KeyList.{KeyList}
 
 -- a letter of a list has a capital 32 below it
 pub has_capital : (ns : List ℕ) (i : ℕ) → i < length ns → T (have_capitals (map letter ns)) → 32 ≤ (letter (get_or ns i 0)).base
@@ -40,40 +24,38 @@ has_capital [] i h t = absurd (omega arith)
 has_capital (n ∷ ns) zero h t = omega (arith, ltb-true 31 (letter n).base (is_true (ltb 31 (letter n).base) (and_l (ltb 31 (letter n).base) (have_capitals (map letter ns)) t)))
 has_capital (n ∷ ns) (suc i) h t = has_capital ns i (omega arith) (and_r (ltb 31 (letter n).base) (have_capitals (map letter ns)) t)
 
--- the letters from a place on
-module _ (s : List ℕ) (i : ℕ) (h : i < length s) where
-  from_here : drop i s ≡ get_or s i 0 ∷ drop (i + 1) s
-  from_here = drop-cons s i 0 h ∙ rw (add-one i)
+-- a key list while the letters are put: with the keys of the letters that are left, it holds those of all
+pub record Putting (mode : ℕ) (letters : List ℕ) (i : ℕ) (l : KeyList) : Type 0 where
+  pub few : l.count ≤ 2 * i
+  pub front : held l ++ letter_keys mode (map letter (drop i letters)) ≡ letter_keys mode (map letter letters)
 
-  pub last_awaits_none : length s ≤ i + 1 → false ≡ first_awaits_o (map letter (drop i s))
-  last_awaits_none k =
-      sym (ap (λ (v : List ℕ). first_awaits_o (map letter v)) (from_here ∙ ap (◌∷◌ (get_or s i 0)) (drop_of_length-le s k)))
+few_after : (mode : ℕ) (x : Letter) (xs : Letters) → length (keys_after mode x xs) ≤ 1
+few_after mode x xs = go (eqb x.shape plain || awaits_o x xs)
+  where
+    go : (b : Bool) → length {A = ℕ} (elim b as (λ z. List ℕ) [ true ↦ [] | false ↦ shape_key mode x ∷ [] ]) ≤ 1
+    go true = lit≤ tt
+    go false = lit≤ tt
 
-  pub awaits_next : i + 1 < length s → (is (letter (get_or s i 0)) (small (code "u") horn) && is (letter (get_or s (i + 1) 0)) (small (code "o") horn)) ≡ first_awaits_o (map letter (drop i s))
-  awaits_next k =
-      sym (ap (λ (v : List ℕ). first_awaits_o (map letter v)) (from_here ∙ ap (◌∷◌ (get_or s i 0)) (drop-cons s (i + 1) 0 k)))
+pub none_put : {mode : ℕ} {letters : List ℕ} {l : KeyList} → l.count ≡ 0 → Putting mode letters 0 l
+none_put {mode} {letters} {l} e = record { few = omega arith; front = ap (λ (n : ℕ). take n l.keys ++ letter_keys mode (map letter letters)) e }
 
-  -- the keys of the letter there, and those of the letters behind it
-  abbrev pub keys_if : ℕ → Bool → List ℕ
-  keys_if mode b = key_of_letter (letter (get_or s i 0)) ∷ (elim b [ true ↦ [] | false ↦ shape_key mode (letter (get_or s i 0)) ∷ [] ] ++ keys_from mode (i + 1) s)
-
-  pub keys_here : (mode : ℕ) (b : Bool) → (eqb (letter (get_or s i 0)).shape plain || first_awaits_o (map letter (drop i s))) ≡ b → keys_from mode i s ≡ keys_if mode b
-  keys_here mode b e =
-      ap (λ (v : List ℕ). letter_keys mode (map letter v)) from_here ∙
-      ap (keys_if mode) (ap (λ (v : List ℕ). eqb (letter (get_or s i 0)).shape plain || first_awaits_o (map letter v)) (sym from_here) ∙ e)
-
--- a key put at a place, with what is to follow
-pub put_key : (l : List ℕ) (at k : ℕ) (rest : List ℕ) → at < length l → take (at + 1) (set l at k) ++ rest ≡ take at l ++ (k ∷ rest)
-put_key l at k rest h = ap (λ (n : ℕ). take n (set l at k) ++ rest) (add-one at) ∙ ap (λ (v : List ℕ). v ++ rest) (take-suc-set l at k h) ∙ append_assoc (take at l) (k ∷ []) rest
-
-pub put_two : (l : List ℕ) (at k m : ℕ) (rest : List ℕ) → at + 1 < length l → take (at + 2) (set (set l at k) (at + 1) m) ++ rest ≡ take at l ++ (k ∷ m ∷ rest)
-put_two l at k m rest h =
-    let e : at + 2 ≡ at + 1 + 1 = omega arith in
-    ap (λ (n : ℕ). take n (set (set l at k) (at + 1) m) ++ rest) e ∙ put_key (set l at k) (at + 1) m rest (simp length-set h) ∙ put_key l at k (m ∷ rest) (omega arith)
+pub one_put : {mode i : ℕ} {letters behind : List ℕ} {l m : KeyList} → i < length letters → behind ≡ drop (i + 1) letters → Putting mode letters i l
+    → Puts l m (key_of_letter (letter (get_or letters i 0)) ∷ keys_after mode (letter (get_or letters i 0)) (map letter behind)) → Putting mode letters (i + 1) m
+one_put {mode} {i} {letters} {behind} {l} {m} h b so more =
+    let x = letter (get_or letters i 0) in
+    let here : drop i letters ≡ get_or letters i 0 ∷ drop (i + 1) letters = drop-cons letters i 0 h ∙ rw (add-one i) in
+    let rest = letter_keys mode (map letter (drop (i + 1) letters)) in
+    let own = key_of_letter x ∷ keys_after mode x (map letter behind) in
+    let e : own ++ rest ≡ letter_keys mode (map letter (drop i letters)) = ap (λ (v : List ℕ). key_of_letter x ∷ (keys_after mode x (map letter v) ++ rest)) b ∙ sym (ap (λ (v : List ℕ). letter_keys mode (map letter v)) here) in
+    record {
+      few = omega (arith, so.few, more.moved, few_after mode x (map letter behind));
+      front = ap (λ (v : List ℕ). v ++ rest) more.front ∙ append_assoc (held l) own rest ∙ ap (λ (v : List ℕ). held l ++ v) e ∙ so.front;
+    }
 
 -- past the last letter every letter's keys are put
-pub all_put : (mode i : ℕ) (s l : List ℕ) → length s ≤ i → l ++ keys_from mode i s ≡ letter_keys mode (map letter s) → l ≡ letter_keys mode (map letter s)
-all_put mode i s l h e = sym (ap (λ (v : List ℕ). l ++ letter_keys mode (map letter v)) (drop_of_length-le s h) ∙ append-nil l) ∙ e
+pub all_put : {mode i : ℕ} {letters : List ℕ} {l : KeyList} → length letters ≤ i → Putting mode letters i l → held l ≡ letter_keys mode (map letter letters)
+all_put {mode} {letters = letters} {l} h so =
+    sym (ap (λ (v : List ℕ). held l ++ letter_keys mode (map letter v)) (drop_of_length-le letters h) ∙ append-nil (held l)) ∙ so.front
 
 -- the tone key last
 module _ (mode t : ℕ) (w : Letters) where

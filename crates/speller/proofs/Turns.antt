@@ -1,4 +1,5 @@
 -- A text read letter by letter: where a letter starts it is read and the reading goes on behind it; else it is stuck there.
+use Rattle.std.specs.Prelude.{Some, None}
 use mathlib.Core.Path.{◌≡◌, refl, sym, ap, ap₂, subst, ◌∙◌}
 use mathlib.Core.Bool.{Bool, true}
 use mathlib.Core.List.{List, [], ◌∷◌, ◌++◌, map, map-append}
@@ -15,8 +16,6 @@ use Rattle.rules.specs.TheWord.{most_bytes, letter, number}
 use Rattle.rules.specs.CodePoints.{Sign, sign, point, utf8}
 use Rattle.rules.specs.Speller.{Front, no_letter, a_letter, letter_at, stuck_at, reading, and_then, more_bytes, go_on, read_from, read, letters_in}
 use Rattle.rules.specs.Speller as Paper
-use Rattle.letters.specs.declared.LetterRead as Code
-use Rattle.letters.specs.declared.LetterRead.TheVariants.{NoLetter}
 use Rattle.letters.specs.Alphabet.{same_sign}
 use Rattle.letters.specs.Decoding.{decoded}
 use Rattle.letters.specs.LettersRead.{read_of, read_at}
@@ -93,7 +92,7 @@ capitals_more (x ∷ ss) s t u =
     and_i first (have_capitals (letters_in (ss ++ (s ∷ [])))) (and_l first (have_capitals (letters_in ss)) t) (capitals_more ss s (and_r first (have_capitals (letters_in ss)) t) u)
 
 -- no letter read is no letter there
-no_front : (f : Front) → NoLetter ≡ read_of f → f ≡ no_letter
+no_front : (f : Front) → None ≡ read_of f → f ≡ no_letter
 no_front no_letter e = refl
 no_front (a_letter s) e = let z : ◌≡◌ {A = ℕ} 0 1 = cc in absurd (omega arith)
 
@@ -121,7 +120,7 @@ module _ {text ns : List ℕ} {r : ReadSoFar} (g : Going text ns r) where
         whole = λ l. g.onward ∙ ap (λ (bs : List ℕ). after ss (read_from 0 r.at bs)) (drop_of_length-le text h) ∙ after_end ss;
       }
 
-  pub sticks : r.at < length text → NoLetter ≡ read_at text r.at → ReadInto text ns r
+  pub sticks : r.at < length text → None ≡ read_at text r.at → ReadInto text ns r
   unfolding read_at
   sticks l e =
       record {
@@ -131,7 +130,7 @@ module _ {text ns : List ℕ} {r : ReadSoFar} (g : Going text ns r) where
       }
 
   -- a letter that is read
-  module _ (l : r.at < length text) {n t k : ℕ} (e : read_at text r.at ≡ Code.LetterRead.Letter n t k) where
+  module _ (l : r.at < length text) {n t k : ℕ} (e : read_at text r.at ≡ Some (record { number = n; tone = t; length = k })) where
     -- what `with_letter` ensures of the next reading
     abbrev Longer : ReadSoFar → Type 0
     Longer next = (us : List Sign) (s : Sign) → r ≡ reading_of r.at us → t ≡ s.tone → next ≡ reading_of (r.at + k) (us ++ (s ∷ []))

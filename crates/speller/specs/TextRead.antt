@@ -1,29 +1,20 @@
--- What the code holds of a text that is read: the reading beside the letters, and the keys from a letter on.
-use Rattle.std.specs.Prelude.{◌≡◌, Bool, true, false, ◌&&◌, List, [], ◌∷◌, map, ℕ, suc, ◌≤◌, ◌<◌, T, eqb, ltb, length, take, drop}
+-- What the code holds of a text that is read: the reading beside the letters.
+use Rattle.std.specs.Prelude.{◌≡◌, Bool, true, false, ◌&&◌, List, [], ◌∷◌, map, ℕ, suc, ◌≤◌, ◌<◌, T, eqb, ltb, length, take, Option, Some, None, Result, Err}
 use Rattle.rules.specs.Letters.{Letters, no_tone}
 use Rattle.rules.specs.TheWord.{letter}
 use Rattle.rules.specs.CodePoints.{Sign}
-use Rattle.rules.specs.Speller.{read, stuck_at, reading, letters_in, tones_in, tone_in, two_tones, awaits_o, letter_keys}
-use Rattle.rules.specs.declared.Place.{Place}
-use Rattle.rules.specs.declared.Place.TheVariants.{At, Nowhere}
-use Rattle.rules.specs.declared.WriteAnswer.{WriteAnswer}
-use Rattle.rules.specs.declared.WriteAnswer.TheVariants.{Refused}
+use Rattle.rules.specs.Speller.{read, stuck_at, reading, letters_in, tones_in, tone_in, two_tones}
 use Rattle.speller.specs.declared.ReadSoFar.{ReadSoFar}
+use Rattle.rules.specs.declared.Refusal.{Refusal}
 
 -- the place of the first letter that carries a tone
-abbrev pub one_on : Place → Place
-one_on (At n) = At (suc n)
-one_on Nowhere = Nowhere
+abbrev pub one_on : Option ℕ → Option ℕ
+one_on (Some n) = Some (suc n)
+one_on None = None
 
-abbrev pub tone_place_in : List Sign → Place
-tone_place_in [] = Nowhere
-tone_place_in (s ∷ ss) = elim (eqb s.tone no_tone) [ true ↦ one_on (tone_place_in ss) | false ↦ At 0 ]
-
-abbrev pub same_place : Place → Place → Bool
-same_place (At m) (At n) = eqb m n
-same_place (At m) Nowhere = false
-same_place Nowhere (At n) = false
-same_place Nowhere Nowhere = true
+abbrev pub tone_place_in : List Sign → Option ℕ
+tone_place_in [] = None
+tone_place_in (s ∷ ss) = elim (eqb s.tone no_tone) [ true ↦ one_on (tone_place_in ss) | false ↦ Some 0 ]
 
 -- the reading after these letters, so many bytes into the text
 abbrev pub reading_of : ℕ → List Sign → ReadSoFar
@@ -49,13 +40,5 @@ pub record ReadInto (text ns : List ℕ) (r : ReadSoFar) : Type 0 where
   pub stuck : r.at < length text → read text ≡ stuck_at r.at
   pub whole : length text ≤ r.at → read text ≡ reading so_far.signs
 
--- the keys of the letters from a place on, and whether the letter there is a ư before an ơ
-abbrev pub keys_from : ℕ → ℕ → List ℕ → List ℕ
-keys_from mode i ns = letter_keys mode (map letter (drop i ns))
-
-abbrev pub first_awaits_o : Letters → Bool
-first_awaits_o [] = false
-first_awaits_o (x ∷ xs) = awaits_o x xs
-
-abbrev pub refused_write : ℕ → ℕ → WriteAnswer
-refused_write n v = Refused (record { number = n; value = v })
+abbrev pub refused_write : ℕ → ℕ → Result ℕ Refusal
+refused_write n v = Err (record { number = n; value = v })

@@ -1,7 +1,7 @@
 -- A letter stored in the array is the letter of the word: at a place with another shape, or after the last.
 use mathlib.Core.Path.{◌≡◌, refl, sym, ap, ap₂, ◌∙◌}
 use mathlib.Core.List.{List, [], ◌∷◌, ◌++◌, map, append_assoc, map-append, head-eq_of_cons-eq, tail-eq_of_cons-eq}
-use Prim.Native.Nat.{ℕ, zero, suc, ◌-◌, ◌%◌, ◌≤◌, ◌<◌}
+use Prim.Native.Nat.{ℕ, zero, suc, ◌%◌, ◌≤◌, ◌<◌}
 use native.Mathlib.Numerals.{add-one}
 use native.Mathlib.Omega.{arith}
 use lib.ListN.{length, take, drop, set, get_or, length-set, length-map, length-append, take-append-drop}
@@ -18,10 +18,6 @@ use Rattle.targets.specs.Aims.{reshape, shape_at}
 -- the numbers with another shape at a place
 abbrev pub reshaped_at : List ℕ → ℕ → ℕ → List ℕ
 reshaped_at l i sh = set l i (number (shaped sh (letter (get_or l i 0))))
-
--- the part from 0 on is the front
-pub is_front : (l : List ℕ) (n : ℕ) → map letter (take n l) ≡ map letter (take (n - 0) (drop 0 l))
-is_front l n = let e : n ≡ n - 0 = omega arith in ap (λ (k : ℕ). map letter (take k l)) e
 
 first_canonical : (n : ℕ) (ns : List ℕ) → Canonical (n ∷ ns) → number (letter n) ≡ n
 first_canonical n ns c = head-eq_of_cons-eq c
@@ -54,6 +50,18 @@ shape_at_law (n ∷ ns) (suc i) h = shape_at_law ns i (omega arith)
 reshaped_letter : (n sh : ℕ) → sh < 8 → letter (number (shaped sh (letter n))) ≡ shaped sh (letter n)
 reshaped_letter n sh h = of_number (n % 256) sh (letter n).capital (omega arith) h
 
+-- a letter with another shape, stored in an array that holds nothing else than letters
+module _ (l : List ℕ) (c : Canonical l) (i sh : ℕ) where
+  pub whole_stored : reshaped_at l i sh ≡ map number (reshape i sh (map letter l))
+  whole_stored = sym (number_reshape l i sh c)
+
+  pub whole_read : sh < 8 → map letter (reshaped_at l i sh) ≡ reshape i sh (map letter l)
+  whole_read s = letter_reshape l i sh (number (shaped sh (letter (get_or l i 0)))) (reshaped_letter (get_or l i 0) sh s)
+
+  pub whole_given : sh < 8 → Canonical (reshaped_at l i sh)
+  whole_given s = ap (map number) (whole_read s) ∙ number_reshape l i sh c
+
+-- and in the front of a longer one
 module _ (l : List ℕ) (n : ℕ) (given : LettersInFront l n) where
   abbrev word : Letters
   word = map letter (take n l)

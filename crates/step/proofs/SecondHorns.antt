@@ -6,7 +6,7 @@ use Prim.Native.Nat.{ℕ, ◌-◌, ◌≤◌, ◌<◌}
 use native.Mathlib.Omega.{arith}
 use lib.Dec.{T, leb, leb→le, lit<}
 use lib.Ieee.Fits.{and_r}
-use lib.ListN.{take, drop, set, get_or, length-append, length-map}
+use lib.ListN.{take, set, get_or, length-append, length-map}
 use Rattle.rules.specs.Letters.{Letter, Letters, plain, horn, characters}
 use Rattle.rules.specs.Refusals.{all}
 use Rattle.rules.specs.TheWord.{State, appended, letter, number, at_front}
@@ -24,7 +24,7 @@ use Rattle.targets.proofs.Waits.{u_and_o, u_before_o, horn_on_u_law}
 use Rattle.step.specs.declared.Rest.{Rest}
 use Rattle.step.specs.declared.Done as Answer
 use Rattle.step.specs.LentLetters.{LettersInFront, RoomForLetter, NoSecondHorn, DoesAsRuled, state_in, appended_plainly, second_horn_on, with_second_horn, unless_closed_role}
-use Rattle.step.proofs.Arrays.{reshaped_at, is_front, stored, read_stored, still_given}
+use Rattle.step.proofs.Arrays.{reshaped_at, stored, read_stored, still_given}
 use Rattle.step.proofs.States.{letters_read, same_array}
 
 -- the second horn that a letter may put on
@@ -69,50 +69,46 @@ module _ (l : List ℕ) (rest : Rest) (given : LettersInFront l rest.count) wher
   second_horn false h = no_horn
 
 -- whether a letter puts it on, by three questions
-module _ (l : List ℕ) (rest : Rest) where
-  pub asked_of_part : {q b : Bool} → q ≡ awaits_second_horn (map letter (take (rest.count - 0) (drop 0 l))) → q ≡ b → awaits_second_horn (state_in l rest).letters ≡ b
-  asked_of_part e f = ap awaits_second_horn (is_front l rest.count) ∙ sym e ∙ f
+module _ (l : List ℕ) (rest : Rest) (k : Letter) where
+  abbrev takes : Bool
+  takes = takes_second_horn (state_in l rest) k
 
-  module _ (k : Letter) where
-    abbrev takes : Bool
-    takes = takes_second_horn (state_in l rest) k
+  by_questions : {a b c : Bool} → rest.closed ≡ a → awaits_second_horn (state_in l rest).letters ≡ b → asks_second_horn k.base ≡ c → takes ≡ (not a && (b && c))
+  by_questions p q r j = not (p j) && (q j && r j)
 
-    by_questions : {a b c : Bool} → rest.closed ≡ a → awaits_second_horn (state_in l rest).letters ≡ b → asks_second_horn k.base ≡ c → takes ≡ (not a && (b && c))
-    by_questions p q r j = not (p j) && (q j && r j)
+  pub takes_none : awaits_second_horn (state_in l rest).letters ≡ false → takes ≡ false
+  takes_none q = by_questions refl q refl ∙ sym (and_false (not rest.closed))
 
-    pub takes_none : awaits_second_horn (state_in l rest).letters ≡ false → takes ≡ false
-    takes_none q = by_questions refl q refl ∙ sym (and_false (not rest.closed))
+  pub takes_closed : rest.closed ≡ true → takes ≡ false
+  takes_closed p = by_questions p refl refl
 
-    pub takes_closed : rest.closed ≡ true → takes ≡ false
-    takes_closed p = by_questions p refl refl
+  pub takes_other : asks_second_horn k.base ≡ false → takes ≡ false
+  takes_other r = by_questions refl refl r ∙ ap (λ (b : Bool). not rest.closed && b) (sym (and_false (awaits_second_horn (state_in l rest).letters))) ∙ sym (and_false (not rest.closed))
 
-    pub takes_other : asks_second_horn k.base ≡ false → takes ≡ false
-    takes_other r = by_questions refl refl r ∙ ap (λ (b : Bool). not rest.closed && b) (sym (and_false (awaits_second_horn (state_in l rest).letters))) ∙ sym (and_false (not rest.closed))
+  pub takes_it : rest.closed ≡ false → awaits_second_horn (state_in l rest).letters ≡ true → asks_second_horn k.base ≡ true → takes ≡ true
+  takes_it p q r = by_questions p q r
 
-    pub takes_it : rest.closed ≡ false → awaits_second_horn (state_in l rest).letters ≡ true → asks_second_horn k.base ≡ true → takes ≡ true
-    takes_it p q r = by_questions p q r
+  waiting : takes ≡ true → awaits_second_horn (state_in l rest).letters ≡ true
+  waiting e = go rest.closed (awaits_second_horn (state_in l rest).letters) (asks_second_horn k.base) e
+    where
+      go : (a b c : Bool) → (not a && (b && c)) ≡ true → b ≡ true
+      go false true c e = refl
+      go false false c e = e
+      go true b c e = let z : ◌≡◌ {A = ℕ} 0 1 = cc in absurd (omega arith)
 
-    waiting : takes ≡ true → awaits_second_horn (state_in l rest).letters ≡ true
-    waiting e = go rest.closed (awaits_second_horn (state_in l rest).letters) (asks_second_horn k.base) e
-      where
-        go : (a b c : Bool) → (not a && (b && c)) ≡ true → b ≡ true
-        go false true c e = refl
-        go false false c e = e
-        go true b c e = let z : ◌≡◌ {A = ℕ} 0 1 = cc in absurd (omega arith)
+  -- left as it was, or put on
+  module _ (given : LettersInFront l rest.count) where
+    pub left_as_it_was : takes ≡ false → (NoLetter ≡ second_horn_on l rest k) × (l ≡ with_second_horn l rest k)
+    left_as_it_was e = (
+      sym (ap (λ (b : Bool). touched_if b (state_in l rest).letters) e),
+      sym (ap (λ (b : Bool). at_front (map number (horn_on_u_if b (state_in l rest).letters)) l) e ∙ same_array l rest given),
+    )
 
-    -- left as it was, or put on
-    module _ (given : LettersInFront l rest.count) where
-      pub left_as_it_was : takes ≡ false → (NoLetter ≡ second_horn_on l rest k) × (l ≡ with_second_horn l rest k)
-      left_as_it_was e = (
-        sym (ap (λ (b : Bool). touched_if b (state_in l rest).letters) e),
-        sym (ap (λ (b : Bool). at_front (map number (horn_on_u_if b (state_in l rest).letters)) l) e ∙ same_array l rest given),
-      )
-
-      pub put_on : takes ≡ true → (v : ℕ) → v ≡ number (shaped horn (letter (get_or l (rest.count - 2) 0))) → (OneLetter (rest.count - 2) ≡ second_horn_on l rest k) × (set l (rest.count - 2) v ≡ with_second_horn l rest k)
-      put_on e v f = (
-        ap (λ (i : ℕ). OneLetter i) (sym (u_stands l rest given (waiting e))) ∙ sym (ap (λ (b : Bool). touched_if b (state_in l rest).letters) e),
-        ap (set l (rest.count - 2)) f ∙ sym (horn_stored l rest given (waiting e)) ∙ sym (ap (λ (b : Bool). at_front (map number (horn_on_u_if b (state_in l rest).letters)) l) e),
-      )
+    pub put_on : takes ≡ true → (v : ℕ) → v ≡ number (shaped horn (letter (get_or l (rest.count - 2) 0))) → (OneLetter (rest.count - 2) ≡ second_horn_on l rest k) × (set l (rest.count - 2) v ≡ with_second_horn l rest k)
+    put_on e v f = (
+      ap (λ (i : ℕ). OneLetter i) (sym (u_stands l rest given (waiting e))) ∙ sym (ap (λ (b : Bool). touched_if b (state_in l rest).letters) e),
+      ap (set l (rest.count - 2)) f ∙ sym (horn_stored l rest given (waiting e)) ∙ sym (ap (λ (b : Bool). at_front (map number (horn_on_u_if b (state_in l rest).letters)) l) e),
+    )
 
 -- the letter of a key, by its number
 lower_small : (k : ℕ) → k < 256 → lower k < 256

@@ -12,10 +12,9 @@ use denote.Enum.Declared.{tag_of}
 use Rattle.rules.specs.Letters.{Letter, Letters}
 use Rattle.rules.specs.TheWord.{State, Done, acted, undone, appended, state_of, letter, number, at_front}
 use Rattle.rules.specs.KeyRoles as Rules
-use Rattle.rules.specs.KeyRoles.{close, edit_does}
+use Rattle.rules.specs.KeyRoles.{close, edit_does, nothing, off, change}
 use Rattle.rules.specs.declared.Act.{Act}
 use Rattle.rules.specs.declared.Touched.{Touched}
-use Rattle.rules.specs.declared.Touched.TheVariants.{NoLetter, OneLetter, TwoLetters}
 use Rattle.rules.specs.declared.Outcome.{Outcome}
 use Rattle.rules.specs.declared.Outcome.TheVariants.{Acted, Undone, Appended}
 use Rattle.rules.proofs.Edits.{Alike, Good, good_none, good_off, good, length_alike}
@@ -23,14 +22,11 @@ use Rattle.rules.specs.LettersOfAMode.{AllFine}
 use Rattle.rules.proofs.Numbers.{fine_alike}
 use Rattle.rules.proofs.Records.{front_front}
 use Rattle.rules.specs.contracts.Outcome as Outcomes
-use Rattle.rules.specs.contracts.Touched as Touches
 use Rattle.step.specs.declared.Edit.{Edit}
-use Rattle.step.specs.declared.Edit.TheVariants.{Nothing, Off, Change}
 use Rattle.step.specs.declared.Rest.{Rest}
 use Rattle.step.specs.declared.Counts.{Counts}
 use Rattle.step.specs.declared.Done as Answer
-use Rattle.step.specs.LentLetters.{LettersInFront, RoomForLetter, LeavesState, DoesAsRuled, Edits, kind_of, edited_in, state_in, appended_plainly, after_edit, rest_with_tone, counted_in, shaper_of, by_then}
-use Rattle.step.specs.contracts.Edit as Kinds
+use Rattle.step.specs.LentLetters.{LettersInFront, RoomForLetter, LeavesState, DoesAsRuled, Edits, kind_of, edited_in, state_in, appended_plainly, after_edit, rest_with_tone, counted_in}
 use Rattle.step.proofs.Arrays.{within, added, front_letters, front_canonical}
 
 -- the same letters, written again
@@ -78,6 +74,16 @@ as_undone g p = record { told = ap (λ (x : Rest). record { outcome = Undone; to
 pub as_ruled : {d e : Done} {l : List ℕ} {r : Answer.Done} {m : List ℕ} → d ≡ e → DoesAsRuled e l r m → DoesAsRuled d l r m
 as_ruled {d} {e} {l} {r} {m} p q = subst (λ (x : Done). DoesAsRuled x l r m) (sym p) q
 
+-- the array after an edit of the letters in its front
+abbrev front_edited : List ℕ → Rules.Edit → List ℕ
+front_edited l nothing = l
+front_edited l (off g w) = at_front (map number w) l
+front_edited l (change a g w) = at_front (map number w) l
+
+pub record FrontEdits (d : Rules.Edit) (l : List ℕ) (e : Edit) (m : List ℕ) : Type 0 where
+  pub told : e ≡ kind_of d
+  pub left : m ≡ front_edited l d
+
 -- the letters after an edit, and what the key then does
 module _ (mode : ℕ) (l : List ℕ) (rest : Rest) (room : RoomForLetter l rest.count) (fine : AllFine mode (state_in l rest).letters) where
   module _ (ws : Letters) {changed : ℕ → Bool} (a : Alike changed (state_in l rest).letters ws) where
@@ -105,19 +111,28 @@ module _ (mode : ℕ) (l : List ℕ) (rest : Rest) (room : RoomForLetter l rest.
         let q = subst (λ (s : State). DoesAsRuled (f s) (at_front (map number ws) l) r m) state_then p in
         record { told = q.told; left = q.left ∙ front_front (map number (state_of (f (Rules.with_letters (state_in l rest) ws))).letters) (map number ws) l (simp length-map h) }
 
-  pub room_after : {d : Rules.Edit} {e : Edit} {m : List ℕ} → Good (state_in l rest).letters d → Edits d l e m → RoomForLetter m rest.count
+  -- the front was lent
+  pub in_front : {d : Rules.Edit} {e : Edit} {m : List ℕ} → Good (state_in l rest).letters d → Edits d (take rest.count l) e m → FrontEdits d l e (m ++ drop rest.count l)
+  in_front g p = record { told = p.told; left = ap (λ (x : List ℕ). x ++ drop rest.count l) p.left ∙ go g }
+    where
+      go : {d : Rules.Edit} → Good (state_in l rest).letters d → edited_in (take rest.count l) d ++ drop rest.count l ≡ front_edited l d
+      go good_none = take-append-drop rest.count l
+      go (good_off c {w = ws} a y) = ap (λ (k : ℕ). map number ws ++ drop k l) (sym (length-map ws number ∙ as_many ws a))
+      go (good c {w = ws} a y q h) = ap (λ (k : ℕ). map number ws ++ drop k l) (sym (length-map ws number ∙ as_many ws a))
+
+  pub room_after : {d : Rules.Edit} {e : Edit} {m : List ℕ} → Good (state_in l rest).letters d → FrontEdits d l e m → RoomForLetter m rest.count
   room_after g p = subst (λ (k : List ℕ). RoomForLetter k rest.count) (sym p.left) (go g)
     where
-      go : {d : Rules.Edit} → Good (state_in l rest).letters d → RoomForLetter (edited_in l d) rest.count
+      go : {d : Rules.Edit} → Good (state_in l rest).letters d → RoomForLetter (front_edited l d) rest.count
       go good_none = room
       go (good_off c {w = ws} a y) = room_for ws a
       go (good c {w = ws} a y q h) = room_for ws a
 
-  pub edit_then : {d : Rules.Edit} {e : Edit} {m m' : List ℕ} {r : Answer.Done} (k : Letter) → Good (state_in l rest).letters d → Edits d l e m → DoesAsRuled (after_edit e (state_in m rest) k) m r m' → DoesAsRuled (edit_does d (state_in l rest) k) l r m'
+  pub edit_then : {d : Rules.Edit} {e : Edit} {m m' : List ℕ} {r : Answer.Done} (k : Letter) → Good (state_in l rest).letters d → FrontEdits d l e m → DoesAsRuled (after_edit e (state_in m rest) k) m r m' → DoesAsRuled (edit_does d (state_in l rest) k) l r m'
   edit_then {d = d'} {m = m} {m' = m'} {r = r} k g p q =
       go g (subst (λ (x : List ℕ). DoesAsRuled (after_edit (kind_of d') (state_in x rest) k) x r m') p.left (subst (λ (x : Edit). DoesAsRuled (after_edit x (state_in m rest) k) m r m') p.told q))
     where
-      go : {d : Rules.Edit} → Good (state_in l rest).letters d → DoesAsRuled (after_edit (kind_of d) (state_in (edited_in l d) rest) k) (edited_in l d) r m' → DoesAsRuled (edit_does d (state_in l rest) k) l r m'
+      go : {d : Rules.Edit} → Good (state_in l rest).letters d → DoesAsRuled (after_edit (kind_of d) (state_in (front_edited l d) rest) k) (front_edited l d) r m' → DoesAsRuled (edit_does d (state_in l rest) k) l r m'
       go good_none x = x
       go (good_off c {g = g} {w = ws} a y) x = over ws a (λ s. undone g (Rules.undo s k)) (simp length-append (omega arith)) x
       go (good c {a = act} {g = g} {w = ws} a y q h) x = over ws a (acted act g) (omega arith) x
@@ -126,32 +141,8 @@ two_no : {m n k : ℕ} → (m ≡ n → ⊥) → (m ≡ k → ⊥) → (m ≡ n)
 two_no f g (inl e) = f e
 two_no f g (inr e) = g e
 
--- an edit that neither takes a mark off nor changes the letters is none
-pub no_edit : (e : Edit) → Among (0 ∷ 2 ∷ []) (tag_of Kinds.the_type e) → Among (0 ∷ 1 ∷ []) (tag_of Kinds.the_type e) → e ≡ Nothing
-no_edit Nothing p q = refl
-no_edit (Off g) p q = absurd (two_no (λ e. omega arith) (λ e. omega arith) (opened p))
-no_edit (Change a g) p q = absurd (two_no (λ e. omega arith) (λ e. omega arith) (opened q))
-
--- a key that touched neither one letter nor two touched none
-pub no_letter : (g : Touched) → Among (0 ∷ 2 ∷ []) (tag_of Touches.the_type g) → Among (0 ∷ 1 ∷ []) (tag_of Touches.the_type g) → g ≡ NoLetter
-no_letter NoLetter p q = refl
-no_letter (OneLetter i) p q = absurd (two_no (λ e. omega arith) (λ e. omega arith) (opened p))
-no_letter (TwoLetters i) p q = absurd (two_no (λ e. omega arith) (λ e. omega arith) (opened q))
-
 -- an outcome that is neither acted nor undone is appended
 pub neither : (n : Counts) (o : Outcome) → Among (1 ∷ 2 ∷ []) (tag_of Outcomes.the_type o) → Among (0 ∷ 2 ∷ []) (tag_of Outcomes.the_type o) → counted_in n Appended ≡ counted_in n o
 neither n (Acted a) p q = absurd (two_no (λ e. omega arith) (λ e. omega arith) (opened p))
 neither n Undone p q = absurd (two_no (λ e. omega arith) (λ e. omega arith) (opened q))
 neither n Appended p q = refl
-
--- a key that was neither appended nor undid acted
-pub acts : (o : Outcome) (l : List ℕ) (count here : ℕ) → Among (0 ∷ 1 ∷ []) (tag_of Outcomes.the_type o) → Among (0 ∷ 2 ∷ []) (tag_of Outcomes.the_type o) → (here ≡ shaper_of o here) × (l ≡ by_then l count here o)
-acts (Acted a) l count here p q = (refl, refl)
-acts Undone l count here p q = absurd (two_no (λ e. omega arith) (λ e. omega arith) (opened q))
-acts Appended l count here p q = absurd (two_no (λ e. omega arith) (λ e. omega arith) (opened p))
-
--- and one that did not act appended a letter
-pub adds : (o : Outcome) (l : List ℕ) (count here : ℕ) → Among (1 ∷ 2 ∷ []) (tag_of Outcomes.the_type o) → set l count here ≡ by_then l count here o
-adds (Acted a) l count here p = absurd (two_no (λ e. omega arith) (λ e. omega arith) (opened p))
-adds Undone l count here p = refl
-adds Appended l count here p = refl

@@ -1,4 +1,5 @@
 -- The step's answer by its tests; and a key kept and counted is the word with the key typed.
+use Rattle.std.specs.Prelude.{Ok, Err}
 use mathlib.Core.Path.{◌≡◌, sym, ap, subst, ◌∙◌}
 use mathlib.Core.Bool.{Bool, true, false, not}
 use mathlib.Core.List.{List, [], ◌∷◌, ◌++◌}
@@ -16,7 +17,6 @@ use Rattle.rules.specs.declared.Word.{Word}
 use Rattle.rules.specs.declared.Touched.{Touched}
 use Rattle.rules.specs.declared.Touched.TheVariants.{NoLetter, OneLetter, TwoLetters}
 use Rattle.rules.specs.declared.Step.{Step}
-use Rattle.rules.specs.declared.StepAnswer.TheVariants.{Did, Refused}
 use Rattle.rules.specs.LettersOfAMode.{AllFine}
 use Rattle.rules.proofs.Numbers.{numbers_letters, fine_letters}
 use Rattle.rules.proofs.Range.{InRange, in_range}
@@ -40,7 +40,7 @@ pub record RoomForKey (w : Word) : Type 0 where
 
 -- the step's answer where it is not refused
 abbrev pub did_of : Word → ℕ → Done → Step
-did_of w k d = record { answer = Did (outcome_of d); word = holding w (counted (word_of w) k d) }
+did_of w k d = record { answer = Ok (outcome_of d); word = holding w (counted (word_of w) k d) }
 
 -- a record in range with room for a key is ready for it
 pub ready : (w : Word) → InRange w → w.typed < most_keys → RoomForKey w
@@ -95,7 +95,7 @@ module _ (w : Word) (k : ℕ) (r : InRange w) (room : w.typed < most_keys) (whol
   abbrev together : Answer.Done → List ℕ → Counts → List ℕ → List ℕ → List ℕ → ℕ → ℕ → Step
   together x l n ps ss ks p t =
       record {
-        answer = Did x.outcome;
+        answer = Ok x.outcome;
         word =
             word_in w.mode l ps ss ks p
             (record { count = x.rest.count; tone = x.rest.tone; closed = x.rest.closed; typed = t; acted = n.acted; undone = n.undone; appended = n.appended });
@@ -118,7 +118,7 @@ module _ (w : Word) (k : ℕ) (r : InRange w) (room : w.typed < most_keys) (whol
 
 -- the answer by the tests
 abbrev refused_step : Word → ℕ → ℕ → Step
-refused_step w number value = record { answer = Refused (record { number = number; value = value }); word = w }
+refused_step w number value = record { answer = Err (record { number = number; value = value }); word = w }
 
 module _ (w : Word) (k : ℕ) where
   pub out_of_range_law : out_of_range w ≡ true → refused_step w 8 0 ≡ step w k

@@ -1,86 +1,78 @@
 -- What is stored by an edit of one letter, or of two, is the edit that the rule says; what is not admitted is put back.
+use Rattle.std.specs.Prelude.{Some}
 use mathlib.Core.Path.{◌≡◌, refl, sym, ap, ap₂, subst, ◌∙◌}
 use mathlib.Core.Bool.{Bool, true, false, ◌&&◌}
-use mathlib.Core.List.{List, [], ◌∷◌, ◌++◌, map}
+use mathlib.Core.List.{List, [], ◌∷◌, map}
 use native.Mathlib.Numerals.{add-one}
-use Prim.Native.Nat.{ℕ, zero, suc, ◌+◌, ◌-◌, ◌%◌, ◌<◌}
+use Prim.Native.Nat.{ℕ, zero, suc, ◌+◌, ◌%◌}
 use native.Mathlib.Omega.{arith}
 use lib.Dec.{eqb, lit<}
 use borrow.Author.Tests.{eq-eqb, ne_eqb}
-use lib.ListN.{length, take, drop, set, get_or, length-map}
-use lib.Seq.{get_or-take, get_or-set_other, set-set, set-get_or, length-take-le, drop-set-lt}
+use lib.ListN.{set, get_or}
+use lib.Seq.{get_or-set_other, set-set, set-get_or}
 use Rattle.rules.specs.Letters.{Letters, plain, horn}
 use Rattle.rules.specs.TakingApart.{admitted}
-use Rattle.rules.specs.TheWord.{letter, number, at_front}
+use Rattle.rules.specs.TheWord.{letter, number}
 use Rattle.rules.specs.KeyRoles as Rules
 use Rattle.rules.specs.KeyRoles.{shaped, target, change, only_if, asked}
 use Rattle.rules.specs.declared.Act.TheVariants.{Shape}
 use Rattle.rules.specs.declared.Touched.{Touched}
 use Rattle.rules.specs.declared.Touched.TheVariants.{OneLetter, TwoLetters}
-use Rattle.rules.specs.declared.Place.TheVariants.{At}
 use Rattle.targets.specs.Aims.{reshape, shape_at, one_at, both_reshaped, pair_at}
 use Rattle.step.specs.declared.Edit.TheVariants.{Nothing, Off, Change}
-use Rattle.step.specs.LentLetters.{LettersInFront, LetterThere, Edits, paired}
-use Rattle.step.proofs.Arrays.{reshaped_at, is_front, within, shape_at_law, length_reshape, stored, read_stored, still_given}
+use Rattle.step.specs.LentLetters.{Canonical, LetterThere, Edits, paired}
+use Rattle.step.proofs.Arrays.{reshaped_at, shape_at_law, whole_stored, whole_read, whole_given}
 
 -- a mark taken off
-off_there : (l : List ℕ) (kind : ℕ) (g : Touched) (v w : Letters) (on : List ℕ) {b : Bool} → b ≡ true → on ≡ at_front (map number v) l → Edits (asked kind (target b g v w)) l (Off g) on
+off_there : (l : List ℕ) (kind : ℕ) (g : Touched) (v w : Letters) (on : List ℕ) {b : Bool} → b ≡ true → on ≡ map number v → Edits (asked kind (target b g v w)) l (Off g) on
 off_there l kind g v w on e s = subst (λ (b : Bool). Edits (asked kind (target b g v w)) l (Off g) on) (sym e) (record { told = refl; left = s })
 
 -- a mark put on: asked about, and kept or put back
-module _ (l on : List ℕ) (n kind : ℕ) (g : Touched) (v w : Letters) {there : Bool} (e : there ≡ false) (r : map letter (take n on) ≡ w) {q : Bool} (p : q ≡ admitted (map letter (take (n - 0) (drop 0 on)))) where
+module _ (l on : List ℕ) (kind : ℕ) (g : Touched) (v w : Letters) {there : Bool} (e : there ≡ false) (r : map letter on ≡ w) {q : Bool} (p : q ≡ admitted (map letter on)) where
   ruled : {b : Bool} → q ≡ b → asked kind (target there g v w) ≡ only_if b (change (Shape kind) g w)
-  ruled t = ap (λ (c : Bool). asked kind (target c g v w)) e ∙ ap (λ (b : Bool). only_if b (change (Shape kind) g w)) (ap admitted (sym r ∙ is_front on n) ∙ sym p ∙ t)
+  ruled t = ap (λ (c : Bool). asked kind (target c g v w)) e ∙ ap (λ (b : Bool). only_if b (change (Shape kind) g w)) (ap admitted (sym r) ∙ sym p ∙ t)
 
-  stays : q ≡ true → on ≡ at_front (map number w) l → Edits (asked kind (target there g v w)) l (Change (Shape kind) g) on
+  stays : q ≡ true → on ≡ map number w → Edits (asked kind (target there g v w)) l (Change (Shape kind) g) on
   stays t s = subst (λ (d : Rules.Edit). Edits d l (Change (Shape kind) g) on) (sym (ruled t)) (record { told = refl; left = s })
 
   put_back : q ≡ false → (back : List ℕ) → back ≡ l → Edits (asked kind (target there g v w)) l Nothing back
   put_back t back s = subst (λ (d : Rules.Edit). Edits d l Nothing back) (sym (ruled t)) (record { told = refl; left = s })
 
 -- a letter in the place of which another shape is stored
-module _ (l : List ℕ) (n i kind : ℕ) (aimed : LetterThere l n i kind) where
+module _ (l : List ℕ) (i kind : ℕ) (aimed : LetterThere l i kind) where
   abbrev word : Letters
-  word = map letter (take n l)
+  word = map letter l
 
-  shape_there : shape_at i (map letter (take n l)) ≡ (letter (get_or l i 0)).shape
-  shape_there =
-      shape_at_law (take n l) i (omega (arith, length-take-le n l (within l n aimed.given), aimed.inside)) ∙ ap (λ (k : ℕ). (letter k).shape) (get_or-take n l i 0 aimed.inside)
+  shape_there : shape_at i (map letter l) ≡ (letter (get_or l i 0)).shape
+  shape_there = shape_at_law l i aimed.inside
 
   -- the mark is there already
-  pub taken_off : (v : ℕ) → v ≡ number (shaped plain (letter (get_or l i 0))) → (letter (get_or l i 0)).shape ≡ kind → Edits (asked kind (one_at kind (At i) (map letter (take n l)))) l (Off (OneLetter i)) (set l i v)
+  pub taken_off : (v : ℕ) → v ≡ number (shaped plain (letter (get_or l i 0))) → (letter (get_or l i 0)).shape ≡ kind → Edits (asked kind (one_at kind (Some i) (map letter l))) l (Off (OneLetter i)) (set l i v)
   taken_off v e s =
       off_there l kind (OneLetter i) (reshape i plain word) (reshape i kind word) (set l i v) (eq-eqb (shape_at i word) kind (shape_there ∙ s))
-      (ap (set l i) e ∙ stored l n aimed.given i plain aimed.inside)
+      (ap (set l i) e ∙ whole_stored l aimed.given i plain)
 
   -- it is not
-  module _ (v : ℕ) (e : v ≡ number (shaped (kind % 8) (letter (get_or l i 0)))) (s : (letter (get_or l i 0)).shape ≡ kind → ⊥) {q : Bool} (p : q ≡ admitted (map letter (take (n - 0) (drop 0 (set l i v))))) where
+  module _ (v : ℕ) (e : v ≡ number (shaped (kind % 8) (letter (get_or l i 0)))) (s : (letter (get_or l i 0)).shape ≡ kind → ⊥) {q : Bool} (p : q ≡ admitted (map letter (set l i v))) where
     on : set l i v ≡ reshaped_at l i kind
     on = let k : kind % 8 ≡ kind = omega (arith, aimed.shape) in ap (set l i) (e ∙ ap (λ (m : ℕ). number (shaped m (letter (get_or l i 0)))) k)
 
     not_there : eqb (shape_at i word) kind ≡ false
     not_there = ne_eqb (shape_at i word) kind (λ h. s (sym shape_there ∙ h))
 
-    read : map letter (take n (set l i v)) ≡ reshape i kind word
-    read = ap (λ (m : List ℕ). map letter (take n m)) on ∙ read_stored l n aimed.given i kind aimed.inside aimed.shape
+    read : map letter (set l i v) ≡ reshape i kind word
+    read = ap (map letter) on ∙ whole_read l aimed.given i kind aimed.shape
 
-    pub one_stays : q ≡ true → Edits (asked kind (one_at kind (At i) (map letter (take n l)))) l (Change (Shape kind) (OneLetter i)) (set l i v)
-    one_stays t = stays l (set l i v) n kind (OneLetter i) (reshape i plain word) (reshape i kind word) not_there read p t (on ∙ stored l n aimed.given i kind aimed.inside)
+    pub one_stays : q ≡ true → Edits (asked kind (one_at kind (Some i) (map letter l))) l (Change (Shape kind) (OneLetter i)) (set l i v)
+    one_stays t = stays l (set l i v) kind (OneLetter i) (reshape i plain word) (reshape i kind word) not_there read p t (on ∙ whole_stored l aimed.given i kind)
 
-    pub one_back : q ≡ false → Edits (asked kind (one_at kind (At i) (map letter (take n l)))) l Nothing (set (set l i v) i (get_or l i 0))
-    one_back t = put_back l (set l i v) n kind (OneLetter i) (reshape i plain word) (reshape i kind word) not_there read p t _ (set-set l i v (get_or l i 0) ∙ set-get_or l i 0)
-
--- a place that the front covers
-same_behind : (new l : List ℕ) (i v : ℕ) → i < length new → at_front new (set l i v) ≡ at_front new l
-same_behind new l i v h = ap (◌++◌ new) (drop-set-lt (length new) l i v h)
+    pub one_back : q ≡ false → Edits (asked kind (one_at kind (Some i) (map letter l))) l Nothing (set (set l i v) i (get_or l i 0))
+    one_back t = put_back l (set l i v) kind (OneLetter i) (reshape i plain word) (reshape i kind word) not_there read p t _ (set-set l i v (get_or l i 0) ∙ set-get_or l i 0)
 
 -- a letter and the next
-module _ (l : List ℕ) (n i kind : ℕ) (aimed : LetterThere l n (i + 1) kind) where
+module _ (l : List ℕ) (i kind : ℕ) (aimed : LetterThere l (i + 1) kind) where
   abbrev letters : Letters
-  letters = map letter (take n l)
-
-  before : i < n
-  before = omega (arith, aimed.inside)
+  letters = map letter l
 
   abbrev first : List ℕ
   first = reshaped_at l i kind
@@ -88,19 +80,17 @@ module _ (l : List ℕ) (n i kind : ℕ) (aimed : LetterThere l n (i + 1) kind) 
   abbrev both : List ℕ
   both = reshaped_at first (i + 1) kind
 
-  first_given : LettersInFront first n
-  first_given = still_given l n aimed.given i kind before aimed.shape
+  first_given : Canonical first
+  first_given = whole_given l aimed.given i kind aimed.shape
 
-  both_letters : reshape (i + 1) kind (map letter (take n first)) ≡ both_reshaped i kind letters
-  both_letters = ap₂ (λ (j : ℕ) (w : Letters). reshape j kind w) (add-one i) (read_stored l n aimed.given i kind before aimed.shape)
+  both_letters : reshape (i + 1) kind (map letter first) ≡ both_reshaped i kind letters
+  both_letters = ap₂ (λ (j : ℕ) (w : Letters). reshape j kind w) (add-one i) (whole_read l aimed.given i kind aimed.shape)
 
-  both_stored : both ≡ at_front (map number (both_reshaped i kind letters)) l
-  both_stored =
-      stored first n first_given (i + 1) kind aimed.inside ∙ ap (λ (w : Letters). at_front (map number w) first) both_letters ∙
-      same_behind (map number (both_reshaped i kind letters)) l i _ (simp (length-map, length_reshape, length-take-le n l (within l n aimed.given)) before)
+  both_stored : both ≡ map number (both_reshaped i kind letters)
+  both_stored = whole_stored first first_given (i + 1) kind ∙ ap (map number) both_letters
 
-  both_read : map letter (take n both) ≡ both_reshaped i kind letters
-  both_read = read_stored first n first_given (i + 1) kind aimed.inside aimed.shape ∙ both_letters
+  both_read : map letter both ≡ both_reshaped i kind letters
+  both_read = whole_read first first_given (i + 1) kind aimed.shape ∙ both_letters
 
   -- the two stores, each of a letter read before them
   both_on : (v x : ℕ) → v ≡ number (shaped kind (letter (get_or l i 0))) → x ≡ number (shaped kind (letter (get_or l (i + 1) 0))) → paired l i v x ≡ both
@@ -123,40 +113,40 @@ paired_back l i v x =
     set-set (set (set l i v) i u) (i + 1) x o ∙ ap (λ (m : List ℕ). set m (i + 1) o) (set-set l i v u ∙ set-get_or l i 0) ∙ set-get_or l (i + 1) 0
 
 -- the horn's pair
-module _ (l : List ℕ) (n i : ℕ) (aimed : LetterThere l n (i + 1) horn) where
-  at_plain : LetterThere l n (i + 1) plain
+module _ (l : List ℕ) (i : ℕ) (aimed : LetterThere l (i + 1) horn) where
+  at_plain : LetterThere l (i + 1) plain
   at_plain = record { given = aimed.given; inside = aimed.inside; shape = lit< tt }
 
-  at_first : LetterThere l n i horn
+  at_first : LetterThere l i horn
   at_first = record { given = aimed.given; inside = omega (arith, aimed.inside); shape = aimed.shape }
 
   abbrev shapes : Bool
   shapes = eqb (letter (get_or l i 0)).shape horn && eqb (letter (get_or l (i + 1) 0)).shape horn
 
-  flag : eqb (shape_at i (map letter (take n l))) horn && eqb (shape_at (suc i) (map letter (take n l))) horn ≡ shapes
+  flag : eqb (shape_at i (map letter l)) horn && eqb (shape_at (suc i) (map letter l)) horn ≡ shapes
   flag =
-      ap₂ (λ (a b : ℕ). eqb a horn && eqb b horn) (shape_there l n i horn at_first)
-      (ap (λ (j : ℕ). shape_at j (map letter (take n l))) (sym (add-one i)) ∙ shape_there l n (i + 1) horn aimed)
+      ap₂ (λ (a b : ℕ). eqb a horn && eqb b horn) (shape_there l i horn at_first)
+      (ap (λ (j : ℕ). shape_at j (map letter l)) (sym (add-one i)) ∙ shape_there l (i + 1) horn aimed)
 
   abbrev word_off : Letters
-  word_off = both_reshaped i plain (map letter (take n l))
+  word_off = both_reshaped i plain (map letter l)
 
   abbrev word_on : Letters
-  word_on = both_reshaped i horn (map letter (take n l))
+  word_on = both_reshaped i horn (map letter l)
 
   pub pair_off : (v x : ℕ) (on : List ℕ) → v ≡ number (shaped plain (letter (get_or l i 0))) → x ≡ number (shaped plain (letter (get_or l (i + 1) 0))) → on ≡ paired l i v x → shapes ≡ true →
-      Edits (asked horn (pair_at (At i) (map letter (take n l)))) l (Off (TwoLetters i)) on
-  pair_off v x on e f o s = off_there l horn (TwoLetters i) word_off word_on on (flag ∙ s) (o ∙ both_on l n i plain at_plain v x e f ∙ both_stored l n i plain at_plain)
+      Edits (asked horn (pair_at (Some i) (map letter l))) l (Off (TwoLetters i)) on
+  pair_off v x on e f o s = off_there l horn (TwoLetters i) word_off word_on on (flag ∙ s) (o ∙ both_on l i plain at_plain v x e f ∙ both_stored l i plain at_plain)
 
-  module _ (v x : ℕ) (on : List ℕ) (e : v ≡ number (shaped horn (letter (get_or l i 0)))) (f : x ≡ number (shaped horn (letter (get_or l (i + 1) 0)))) (o : on ≡ paired l i v x) (s : shapes ≡ false) {q : Bool} (p : q ≡ admitted (map letter (take (n - 0) (drop 0 on)))) where
+  module _ (v x : ℕ) (on : List ℕ) (e : v ≡ number (shaped horn (letter (get_or l i 0)))) (f : x ≡ number (shaped horn (letter (get_or l (i + 1) 0)))) (o : on ≡ paired l i v x) (s : shapes ≡ false) {q : Bool} (p : q ≡ admitted (map letter on)) where
     two : on ≡ reshaped_at (reshaped_at l i horn) (i + 1) horn
-    two = o ∙ both_on l n i horn aimed v x e f
+    two = o ∙ both_on l i horn aimed v x e f
 
-    two_read : map letter (take n on) ≡ word_on
-    two_read = ap (λ (m : List ℕ). map letter (take n m)) two ∙ both_read l n i horn aimed
+    two_read : map letter on ≡ word_on
+    two_read = ap (map letter) two ∙ both_read l i horn aimed
 
-    pub pair_stays : q ≡ true → Edits (asked horn (pair_at (At i) (map letter (take n l)))) l (Change (Shape horn) (TwoLetters i)) on
-    pair_stays t = stays l on n horn (TwoLetters i) word_off word_on (flag ∙ s) two_read p t (two ∙ both_stored l n i horn aimed)
+    pub pair_stays : q ≡ true → Edits (asked horn (pair_at (Some i) (map letter l))) l (Change (Shape horn) (TwoLetters i)) on
+    pair_stays t = stays l on horn (TwoLetters i) word_off word_on (flag ∙ s) two_read p t (two ∙ both_stored l i horn aimed)
 
-    pub pair_back : q ≡ false → (back : List ℕ) → back ≡ paired on i (get_or l i 0) (get_or l (i + 1) 0) → Edits (asked horn (pair_at (At i) (map letter (take n l)))) l Nothing back
-    pair_back t back h = put_back l on n horn (TwoLetters i) word_off word_on (flag ∙ s) two_read p t back (h ∙ ap (λ (m : List ℕ). paired m i (get_or l i 0) (get_or l (i + 1) 0)) o ∙ paired_back l i v x)
+    pub pair_back : q ≡ false → (back : List ℕ) → back ≡ paired on i (get_or l i 0) (get_or l (i + 1) 0) → Edits (asked horn (pair_at (Some i) (map letter l))) l Nothing back
+    pair_back t back h = put_back l on horn (TwoLetters i) word_off word_on (flag ∙ s) two_read p t back (h ∙ ap (λ (m : List ℕ). paired m i (get_or l i 0) (get_or l (i + 1) 0)) o ∙ paired_back l i v x)

@@ -1,5 +1,5 @@
 -- What a rule of document 01 leaves in the array of letters and in the state beside it; only contracts of private functions cite what stands here.
-use Rattle.std.specs.Prelude.{◌≡◌, Bool, true, false, List, [], ◌∷◌, ◌++◌, map, ℕ, ◌+◌, ◌≤◌, ◌<◌, eqb, length, take, set}
+use Rattle.std.specs.Prelude.{◌≡◌, Bool, true, false, List, [], ◌∷◌, ◌++◌, map, ℕ, ◌+◌, ◌≤◌, ◌<◌, eqb, length, take, set, Option, Some}
 use Prim.Native.Char.{code}
 use Rattle.rules.specs.Letters.{Letter, no_tone, small}
 use Rattle.rules.specs.TheWord.{State, Done, acted, undone, state_of, touched_of, outcome_of, one_more, is_acted, is_undone, is_appended, no_key, shaped_on, most_keys, letter, number, at_front}
@@ -27,10 +27,15 @@ pub record LettersInFront (l : List ℕ) (count : ℕ) : Type 0 where
   pub fits : count ≤ most_keys
   pub canonical : Canonical (take count l)
 
--- a place among the first letters of an array, and a shape that a number has room for
-pub record LetterThere (l : List ℕ) (count i kind : ℕ) : Type 0 where
-  pub given : LettersInFront l count
-  pub inside : i < count
+-- a place among letters, and a shape that a number has room for; and a place that was found among them, if it was
+pub record LetterThere (l : List ℕ) (i kind : ℕ) : Type 0 where
+  pub given : Canonical l
+  pub inside : i < length l
+  pub shape : kind < 8
+
+pub record PlaceThere (l : List ℕ) (place : Option ℕ) (kind : ℕ) : Type 0 where
+  pub given : Canonical l
+  pub inside : (i : ℕ) → place ≡ Some i → i < length l
   pub shape : kind < 8
 
 -- an array with room for a letter more
@@ -46,7 +51,7 @@ paired l i a b = set (set l i a) (i + 1) b
 abbrev pub dee : ℕ → Letter
 dee kind = small (code "d") kind
 
--- an edit without its letters, and the array with them
+-- an edit without its letters, and the letters' numbers then
 abbrev pub kind_of : Rules.Edit → Edit
 kind_of nothing = Nothing
 kind_of (off g w) = Off g
@@ -54,8 +59,8 @@ kind_of (change a g w) = Change a g
 
 abbrev pub edited_in : List ℕ → Rules.Edit → List ℕ
 edited_in l nothing = l
-edited_in l (off g w) = at_front (map number w) l
-edited_in l (change a g w) = at_front (map number w) l
+edited_in l (off g w) = map number w
+edited_in l (change a g w) = map number w
 
 pub record Edits (e : Rules.Edit) (old : List ℕ) (r : Edit) (new : List ℕ) : Type 0 where
   pub told : r ≡ kind_of e

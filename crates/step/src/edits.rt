@@ -1,20 +1,20 @@
 // What a shape or stroke key does to the letters, where they lie. The letters asked about are the letters written:
 // the shape is put on, admission is asked of these very letters, and they stay so; where they are not admitted the old letter is put back.
-ghost use Rattle.std.specs.Prelude.{◌≡◌, map, ◌+◌, ◌<◌, length, take};
+ghost use Rattle.std.specs.Prelude.{◌≡◌, map, ◌+◌, ◌<◌, length};
 ghost use Rattle.rules.specs.Letters.{circumflex, horn};
 ghost use Rattle.rules.specs.TheWord.{letter};
 ghost use Rattle.rules.specs.KeyRoles.{asked as asked_of, last, circumflex_on, horned, shape_edit as shape_edit_of, stroke_edit as stroke_edit_of};
 ghost use Rattle.targets.specs.Places.{wanted};
 ghost use Rattle.targets.specs.Aims.{one_at, pair_at};
-ghost use Rattle.step.specs.LentLetters.{LettersInFront, LetterThere, Edits, paired};
+ghost use Rattle.step.specs.LentLetters.{Canonical, LetterThere, PlaceThere, Edits, paired};
 
 use crate::Edit;
-use rules::{Act, BREVE, CIRCUMFLEX, HORN, PLAIN, Place, STROKE, ShapeKey, Touched};
+use rules::{Act, BREVE, CIRCUMFLEX, HORN, PLAIN, STROKE, ShapeKey, Touched};
 
 // A shape on the letter at a place: taken off if it is there already.
-fn at(letters: &mut [u16], count: usize, i: usize, kind: u8) -> Edit
-    requires { LetterThere letters.old count i kind }
-    ensures { Edits (asked_of kind (one_at kind (Place.At i) (map letter (take count letters.old)))) letters.old result letters.new }
+fn at(letters: &mut [u16], i: usize, kind: u8) -> Edit
+    requires { LetterThere letters.old i kind }
+    ensures { Edits (asked_of kind (one_at kind (Some i) (map letter letters.old))) letters.old result letters.new }
 {
     let old = letters[i];
     if rules::shape(old) == kind {
@@ -23,7 +23,7 @@ fn at(letters: &mut [u16], count: usize, i: usize, kind: u8) -> Edit
     }
     let new = rules::reshaped(old, kind);
     letters[i] = new;
-    if syllable::admitted(&letters[0..count]) {
+    if syllable::admitted(letters) {
         return Edit::Change(Act::Shape(kind), Touched::OneLetter(i));
     }
     letters[i] = old;
@@ -40,9 +40,9 @@ fn put_pair(letters: &mut [u16], i: usize, first: u16, second: u16)
 }
 
 // A horn on a letter and the next, both together: taken off if both have it already.
-fn both(letters: &mut [u16], count: usize, i: usize) -> Edit
-    requires { LetterThere letters.old count (i + 1) horn }
-    ensures { Edits (asked_of horn (pair_at (Place.At i) (map letter (take count letters.old)))) letters.old result letters.new }
+fn both(letters: &mut [u16], i: usize) -> Edit
+    requires { LetterThere letters.old (i + 1) horn }
+    ensures { Edits (asked_of horn (pair_at (Some i) (map letter letters.old))) letters.old result letters.new }
 {
     let u = letters[i];
     let o = letters[i + 1];
@@ -61,87 +61,89 @@ fn both(letters: &mut [u16], count: usize, i: usize) -> Edit
         rules::reshaped(u, HORN),
         rules::reshaped(o, HORN),
     );
-    if syllable::admitted(&letters[0..count]) {
+    if syllable::admitted(letters) {
         return Edit::Change(Act::Shape(HORN), Touched::TwoLetters(i));
     }
     put_pair(letters, i, u, o);
     Edit::Nothing
 }
 
-// A horn on the o alone, where the word is huo, khuo or thuo; else on the pair; with no such pair, on the single letter.
-fn horn_edit(letters: &mut [u16], count: usize) -> Edit
-    requires { LettersInFront letters.old count }
-    ensures { Edits (asked_of horn (horned (map letter (take count letters.old)))) letters.old result letters.new }
+// The same at the place that a search found, if it found one.
+fn at_place(letters: &mut [u16], place: Option<usize>, kind: u8) -> Edit
+    requires { PlaceThere letters.old place kind }
+    ensures { Edits (asked_of kind (one_at kind place (map letter letters.old))) letters.old result letters.new }
 {
-    if targets::horns_o_alone(&letters[0..count]) {
-        return at(letters, count, count - 1, HORN);
-    }
-    let pair = targets::pair(&letters[0..count]);
-    if let Place::At(i) = pair {
-        return both(letters, count, i);
-    }
-    let single = targets::single(&letters[0..count]);
-    let Place::At(i) = single else {
+    let Some(i) = place else {
         return Edit::Nothing;
     };
-    at(letters, count, i, HORN)
+    at(letters, i, kind)
+}
+
+// A horn on the o alone, where the word is huo, khuo or thuo; else on the pair; with no such pair, on the single letter.
+fn horn_edit(letters: &mut [u16]) -> Edit
+    requires { Canonical letters.old }
+    ensures { Edits (asked_of horn (horned (map letter letters.old))) letters.old result letters.new }
+{
+    if targets::horns_o_alone(letters) {
+        let o = letters.len() - 1;
+        return at(letters, o, HORN);
+    }
+    if let Some(i) = targets::pair(letters) {
+        return both(letters, i);
+    }
+    let place = targets::single(letters);
+    at_place(letters, place, HORN)
 }
 
 // A circumflex or breve on the last letter that its key wants.
-fn last_edit(letters: &mut [u16], count: usize, key: ShapeKey, kind: u8) -> Edit
-    requires { LettersInFront letters.old count × (kind < 8) }
-    ensures { Edits (asked_of kind (last (wanted key) kind (map letter (take count letters.old)))) letters.old result letters.new }
+fn last_edit(letters: &mut [u16], key: ShapeKey, kind: u8) -> Edit
+    requires { Canonical letters.old × (kind < 8) }
+    ensures { Edits (asked_of kind (last (wanted key) kind (map letter letters.old))) letters.old result letters.new }
 {
-    let place = targets::last_wanted(&letters[0..count], key);
-    let Place::At(i) = place else {
-        return Edit::Nothing;
-    };
-    at(letters, count, i, kind)
+    let place = targets::last_wanted(letters, key);
+    at_place(letters, place, kind)
 }
 
 // A circumflex on the last letter that its Telex key wants.
-fn own_edit(letters: &mut [u16], count: usize, own: u8) -> Edit
-    requires { LettersInFront letters.old count }
-    ensures { Edits (asked_of circumflex (circumflex_on own (map letter (take count letters.old)))) letters.old result letters.new }
+fn own_edit(letters: &mut [u16], own: u8) -> Edit
+    requires { Canonical letters.old }
+    ensures { Edits (asked_of circumflex (circumflex_on own (map letter letters.old))) letters.old result letters.new }
 {
-    let place = targets::last_own(&letters[0..count], own);
-    let Place::At(i) = place else {
-        return Edit::Nothing;
-    };
-    at(letters, count, i, CIRCUMFLEX)
+    let place = targets::last_own(letters, own);
+    at_place(letters, place, CIRCUMFLEX)
 }
 
 // Telex w: the horn's edit, or where that is none the breve's.
-fn horn_or_breve(letters: &mut [u16], count: usize) -> Edit
-    requires { LettersInFront letters.old count }
-    ensures { Edits (shape_edit_of ShapeKey.HornBreve (map letter (take count letters.old))) letters.old result letters.new }
+fn horn_or_breve(letters: &mut [u16]) -> Edit
+    requires { Canonical letters.old }
+    ensures { Edits (shape_edit_of ShapeKey.HornBreve (map letter letters.old)) letters.old result letters.new }
 {
-    let edit = horn_edit(letters, count);
+    let edit = horn_edit(letters);
     if let Edit::Nothing = edit {
-        return last_edit(letters, count, ShapeKey::Breve, BREVE);
+        return last_edit(letters, ShapeKey::Breve, BREVE);
     }
     edit
 }
 
-pub(crate) fn shape_edit(letters: &mut [u16], count: usize, key: ShapeKey) -> Edit
-    requires { LettersInFront letters.old count }
-    ensures { Edits (shape_edit_of key (map letter (take count letters.old))) letters.old result letters.new }
+pub(crate) fn shape_edit(letters: &mut [u16], key: ShapeKey) -> Edit
+    requires { Canonical letters.old }
+    ensures { Edits (shape_edit_of key (map letter letters.old)) letters.old result letters.new }
 {
     match key {
-        ShapeKey::CircumflexOn(own) => own_edit(letters, count, own),
-        ShapeKey::Circumflex => last_edit(letters, count, key, CIRCUMFLEX),
-        ShapeKey::Breve => last_edit(letters, count, key, BREVE),
-        ShapeKey::Horn => horn_edit(letters, count),
-        ShapeKey::HornBreve => horn_or_breve(letters, count),
+        ShapeKey::CircumflexOn(own) => own_edit(letters, own),
+        ShapeKey::Circumflex => last_edit(letters, key, CIRCUMFLEX),
+        ShapeKey::Breve => last_edit(letters, key, BREVE),
+        ShapeKey::Horn => horn_edit(letters),
+        ShapeKey::HornBreve => horn_or_breve(letters),
     }
 }
 
 // If the first letter is đ, the stroke is taken off; if it is d, and it stands alone or the letters are admitted, put on.
-pub(crate) fn stroke_edit(letters: &mut [u16], count: usize) -> Edit
-    requires { LettersInFront letters.old count }
-    ensures { Edits (stroke_edit_of (map letter (take count letters.old))) letters.old result letters.new }
+pub(crate) fn stroke_edit(letters: &mut [u16]) -> Edit
+    requires { Canonical letters.old }
+    ensures { Edits (stroke_edit_of (map letter letters.old)) letters.old result letters.new }
 {
-    if count == 0 {
+    if letters.is_empty() {
         return Edit::Nothing;
     }
     let first = letters[0];
@@ -149,8 +151,8 @@ pub(crate) fn stroke_edit(letters: &mut [u16], count: usize) -> Edit
         letters[0] = rules::reshaped(first, PLAIN);
         return Edit::Off(Touched::OneLetter(0));
     }
-    let alone = count == 1;
-    if rules::is(first, b'd', PLAIN) & (alone | syllable::admitted(&letters[0..count])) {
+    let alone = letters.len() == 1;
+    if rules::is(first, b'd', PLAIN) & (alone | syllable::admitted(letters)) {
         letters[0] = rules::reshaped(first, STROKE);
         return Edit::Change(Act::Stroke, Touched::OneLetter(0));
     }

@@ -12,13 +12,13 @@ fn put_shaper(shaped_by: &mut [u8], touched: Touched, place: u8)
     requires { TouchesIn (length shaped_by.old) touched }
     ensures { shaped_by.new ≡ shaped_on place touched shaped_by.old }
 {
-    if let Touched::OneLetter(i) = touched {
-        shaped_by[i] = place;
-        return;
-    }
-    if let Touched::TwoLetters(i) = touched {
-        shaped_by[i] = place;
-        shaped_by[i + 1] = place;
+    match touched {
+        Touched::NoLetter => {}
+        Touched::OneLetter(i) => shaped_by[i] = place,
+        Touched::TwoLetters(i) => {
+            shaped_by[i] = place;
+            shaped_by[i + 1] = place;
+        }
     }
 }
 
@@ -27,10 +27,9 @@ pub(crate) fn put_appender(appended_by: &mut [u8], count: usize, outcome: Outcom
     requires { count < length appended_by.old }
     ensures { appended_by.new ≡ by_then appended_by.old count here outcome }
 {
-    if let Outcome::Acted(_) = outcome {
-        return;
+    if !matches!(outcome, Outcome::Acted(_)) {
+        appended_by[count] = here;
     }
-    appended_by[count] = here;
 }
 
 // A key has shaped the letters that it touched, or after an undo none has; the letter that it appended is shaped by none.
@@ -44,17 +43,17 @@ pub(crate) fn put_shapers(
     requires { (count < length shaped_by.old) × TouchesIn (length shaped_by.old) touched }
     ensures { shaped_by.new ≡ shaped_then shaped_by.old count here touched outcome }
 {
-    if let Outcome::Appended = outcome {
-        put_shaper(shaped_by, touched, here);
-        shaped_by[count] = Word::NO_KEY;
-        return;
+    match outcome {
+        Outcome::Acted(_) => put_shaper(shaped_by, touched, here),
+        Outcome::Undone => {
+            put_shaper(shaped_by, touched, Word::NO_KEY);
+            shaped_by[count] = Word::NO_KEY;
+        }
+        Outcome::Appended => {
+            put_shaper(shaped_by, touched, here);
+            shaped_by[count] = Word::NO_KEY;
+        }
     }
-    if let Outcome::Undone = outcome {
-        put_shaper(shaped_by, touched, Word::NO_KEY);
-        shaped_by[count] = Word::NO_KEY;
-        return;
-    }
-    put_shaper(shaped_by, touched, here);
 }
 
 // The place of the key that set the tone: a key that changed it has set it, or there is none.

@@ -7,10 +7,10 @@ ghost use Rattle.rules.specs.KeyRoles.{letter_of_key, asks_second_horn as asks_s
 ghost use Rattle.rules.specs.LettersOfAMode.{AllFine};
 ghost use Rattle.rules.specs.WhatComesBack.{step as step_of};
 ghost use Rattle.step.specs.LentLetters.{LettersInFront, RoomForLetter, NoSecondHorn, appended_plainly, second_horn_on, with_second_horn, LeavesState, DoesAsRuled, state_in, after_edit, rest_with_tone, counted_in, unless_closed_role};
-ghost use Rattle.step.specs.InPlace.{held_in, ReadyAt, TypedAt, refused_with, not_taken as not_taken_of, step_at as step_at_of};
+ghost use Rattle.step.specs.InPlace.{held_in, ReadyAt, TypedAt, not_taken as not_taken_of, step_at as step_at_of};
 
 use records::Numbers;
-use rules::{Act, HORN, NO_TONE, Outcome, Refusal, Role, Step, StepAnswer, ToneKey, Touched, Word};
+use rules::{Act, HORN, NO_TONE, Outcome, Refusal, Role, Step, ToneKey, Touched, Word, refuse};
 
 mod edits;
 mod keeping;
@@ -23,12 +23,20 @@ enum Edit {
     Change(Act, Touched),
 }
 
-// A word's state beside its letters.
+// A word's state beside its letters. These stay lent: by value in one struct with it they would be copied.
 #[derive(Clone, Copy)]
 struct Rest {
     count: u8,
     tone: u8,
     closed: bool,
+}
+
+impl Rest {
+    fn with_tone(self, tone: u8) -> Rest
+        ensures { result ≡ rest_with_tone self tone }
+    {
+        Rest { tone, ..self }
+    }
 }
 
 // What a key did, on which letters, and the state beside the letters then, before the key is kept and counted.
@@ -48,8 +56,7 @@ fn append(letters: &mut [u16], rest: Rest, key: u8) -> Rest
     letters[n] = keys::letter_of_key(key);
     Rest {
         count: rest.count + 1,
-        tone: rest.tone,
-        closed: rest.closed,
+        ..rest
     }
 }
 
@@ -59,7 +66,7 @@ fn appended(letters: &mut [u16], rest: Rest, key: u8, touched: Touched) -> Done
 {
     Done {
         outcome: Outcome::Appended,
-        touched: touched,
+        touched,
         rest: append(letters, rest, key),
     }
 }
@@ -72,22 +79,11 @@ fn undone(letters: &mut [u16], rest: Rest, key: u8, touched: Touched) -> Done
     let next = append(letters, rest, key);
     Done {
         outcome: Outcome::Undone,
-        touched: touched,
+        touched,
         rest: Rest {
-            count: next.count,
-            tone: next.tone,
             closed: true,
+            ..next
         },
-    }
-}
-
-fn with_tone(rest: Rest, tone: u8) -> Rest
-    ensures { result ≡ rest_with_tone rest tone }
-{
-    Rest {
-        count: rest.count,
-        tone: tone,
-        closed: rest.closed,
     }
 }
 
@@ -105,18 +101,18 @@ fn tone_key(letters: &mut [u16], rest: Rest, key: u8, role: ToneKey) -> Done
         return Done {
             outcome: Outcome::Acted(Act::Clear),
             touched: Touched::NoLetter,
-            rest: with_tone(rest, NO_TONE),
+            rest: rest.with_tone(NO_TONE),
         };
     };
     if tone == wanted {
-        return undone(letters, with_tone(rest, NO_TONE), key, Touched::NoLetter);
+        return undone(letters, rest.with_tone(NO_TONE), key, Touched::NoLetter);
     }
     let n = rest.count as usize;
-    if syllable::takes_tone(&letters[0..n], wanted) {
+    if syllable::takes_tone(&letters[..n], wanted) {
         return Done {
             outcome: Outcome::Acted(Act::Tone(wanted)),
             touched: Touched::NoLetter,
-            rest: with_tone(rest, wanted),
+            rest: rest.with_tone(wanted),
         };
     }
     appended(letters, rest, key, Touched::NoLetter)
@@ -127,17 +123,15 @@ fn edit_does(letters: &mut [u16], rest: Rest, key: u8, edit: Edit) -> Done
     requires { RoomForLetter letters.old rest.count × NoSecondHorn key }
     ensures { DoesAsRuled (after_edit edit (state_in letters.old rest) (letter_of_key key)) letters.old result letters.new }
 {
-    if let Edit::Off(touched) = edit {
-        return undone(letters, rest, key, touched);
-    }
-    if let Edit::Change(act, touched) = edit {
-        return Done {
+    match edit {
+        Edit::Off(touched) => undone(letters, rest, key, touched),
+        Edit::Change(act, touched) => Done {
             outcome: Outcome::Acted(act),
-            touched: touched,
-            rest: rest,
-        };
+            touched,
+            rest,
+        },
+        Edit::Nothing => appended(letters, rest, key, Touched::NoLetter),
     }
-    appended(letters, rest, key, Touched::NoLetter)
 }
 
 // In a closed word no key has a role.
@@ -154,7 +148,7 @@ fn role_in(closed: bool, mode: u8, key: u8) -> Role
 fn asks_second_horn(b: u8) -> bool
     ensures { result ≡ asks_second_horn_of b }
 {
-    ((b == b'i') | (b == b'u')) | classes::is_final(b)
+    matches!(b, b'i' | b'u') | classes::is_final(b)
 }
 
 // The horn that an appended letter puts on the u of an open huơ, khuơ or thuơ, and that u. Only letters without a role put it on.
@@ -163,34 +157,30 @@ fn second_horn(letters: &mut [u16], rest: Rest, key: u8) -> Touched
     ensures { (result ≡ second_horn_on letters.old rest (letter_of_key key)) × (letters.new ≡ with_second_horn letters.old rest (letter_of_key key)) }
 {
     let n = rest.count as usize;
-    if !targets::awaits_second_horn(&letters[0..n]) {
-        return Touched::NoLetter;
-    }
-    if rest.closed {
-        return Touched::NoLetter;
-    }
-    if !asks_second_horn(rules::base(keys::letter_of_key(key))) {
+    if !targets::awaits_second_horn(&letters[..n])
+        || rest.closed
+        || !asks_second_horn(rules::base(keys::letter_of_key(key)))
+    {
         return Touched::NoLetter;
     }
     letters[n - 2] = rules::reshaped(letters[n - 2], HORN);
     Touched::OneLetter(n - 2)
 }
 
-// What a key does by its role: one that has none is appended.
+// What a key does by its role, one arm for each of the document's roles: one that has none is appended.
 fn key_does(letters: &mut [u16], rest: Rest, mode: u8, key: u8) -> Done
     requires { RoomForLetter letters.old rest.count × AllFine mode (state_in letters.old rest).letters }
     ensures { DoesAsRuled (unless_closed rest.closed (role_of mode key) (state_in letters.old rest) (letter_of_key key)) letters.old result letters.new }
 {
     let count = rest.count as usize;
-    let role = role_in(rest.closed, mode, key);
-    match role {
+    match role_in(rest.closed, mode, key) {
         Role::ToneRole(tone) => tone_key(letters, rest, key, tone),
         Role::ShapeRole(shape) => {
-            let edit = edits::shape_edit(letters, count, shape);
+            let edit = edits::shape_edit(&mut letters[..count], shape);
             edit_does(letters, rest, key, edit)
         }
         Role::StrokeRole => {
-            let edit = edits::stroke_edit(letters, count);
+            let edit = edits::stroke_edit(&mut letters[..count]);
             edit_does(letters, rest, key, edit)
         }
         Role::NoRole => {
@@ -237,13 +227,13 @@ fn typed(lent: &mut [u8], letters: &mut [u16], mode: u8, n: Numbers, key: u8) ->
         tone: n.tone,
         closed: n.closed,
     };
-    let done = key_does(letters, rest, mode, key);
-    let outcome = done.outcome;
-    let touched = done.touched;
-    let now = done.rest;
-    let at = n.typed as usize;
+    let Done {
+        outcome,
+        touched,
+        rest: now,
+    } = key_does(letters, rest, mode, key);
     let count = n.count as usize;
-    lent[layout::AT_KEYS + at] = key;
+    lent[layout::AT_KEYS + n.typed as usize] = key;
     keeping::put_appender(
         &mut lent[layout::AT_APPENDED_BY..layout::AT_SHAPED_BY],
         count,
@@ -286,61 +276,46 @@ fn typed(lent: &mut [u8], letters: &mut [u16], mode: u8, n: Numbers, key: u8) ->
     outcome
 }
 
-fn refused(number: u8, value: usize) -> StepAnswer
-    ensures { result ≡ refused_with number value }
-{
-    StepAnswer::Refused(Refusal {
-        number: number,
-        value: value,
-    })
-}
-
 // A key that is not taken: the word is full, or else its mode does not allow the key. One question leads here and not two: what stands
 // behind many, the compiler takes for seldom run.
-fn not_taken(at: usize) -> StepAnswer
+fn not_taken(at: usize) -> Result<Outcome, Refusal>
     ensures { result ≡ not_taken_of at }
 {
     if Word::KEYS <= at {
-        return refused(2, Word::KEYS);
+        return refuse(2, Word::KEYS);
     }
-    refused(3, at)
+    refuse(3, at)
 }
 
 // One key, typed into a word that is lent as its record's bytes, where they lie. Refusals: 8, also for bytes that are no record, 2, 3; the
 // bytes are then as they were.
-pub fn step_at(lent: &mut [u8], key: u8) -> StepAnswer
+pub fn step_at(lent: &mut [u8], key: u8) -> Result<Outcome, Refusal>
     ensures { (result ≡ (step_at_of lent.old key).answer) × (lent.new ≡ (step_at_of lent.old key).bytes) }
 {
-    let reading = layout::read(lent);
-    if !reading.is_record {
-        return refused(8, 0);
-    }
-    let w = reading.word;
+    let Some(w) = layout::read(lent) else {
+        return refuse(8, 0);
+    };
     let mode = w.mode;
     let n = records::numbers_of(w);
-    let appended_by = w.appended_by;
-    let shaped_by = w.shaped_by;
-    if records::numbers_wrong(mode, n)
-        | records::places_wrong(n.typed, n.count, &appended_by, &shaped_by, w.toned_by)
-    {
-        return refused(8, 0);
+    if records::numbers_wrong(&w) | records::places_wrong(&w) {
+        return refuse(8, 0);
     }
-    let at = n.typed as usize;
+    let at = w.typed as usize;
+    // The keys are taken out of the word, for the same reason as the places in records::places_wrong.
     let kept = w.keys;
-    if !records::keys_allowed(mode, &kept[0..at]) {
-        return refused(8, 0);
+    if !records::keys_allowed(mode, &kept[..at]) {
+        return refuse(8, 0);
     }
     let mut letters = layout::letters_of(lent);
-    let count = n.count as usize;
-    if !records::letters_allowed(mode, &letters[0..count]) {
-        return refused(8, 0);
+    if !records::letters_allowed(mode, &letters[..w.count as usize]) {
+        return refuse(8, 0);
     }
     if (Word::KEYS <= at) | !keys::is_key(mode, key) {
         return not_taken(at);
     }
     let outcome = typed(lent, &mut letters, mode, n, key);
     layout::put_letters(&letters, lent);
-    StepAnswer::Did(outcome)
+    Ok(outcome)
 }
 
 // One key. Refusals: 8, 2, 3; the word is then as it was.
@@ -350,10 +325,7 @@ pub fn step(w: Word, key: u8) -> Step
     let mut bytes = [0; layout::LENGTH];
     layout::write(w, &mut bytes);
     let answer = step_at(&mut bytes, key);
-    let reading = layout::read(&bytes);
-    let next = reading.word;
-    Step {
-        answer: answer,
-        word: next,
-    }
+    // What was written is a record, and stays one.
+    let word = layout::read(&bytes).unwrap_or(w);
+    Step { answer, word }
 }

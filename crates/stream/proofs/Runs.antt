@@ -1,8 +1,8 @@
 -- Feeding the input in blocks cut anywhere writes the answers to its lines: the drill's behind the header, with the places of the keys or without, and the speller's.
+use Rattle.std.specs.Prelude.{Option, Some, None, Ok}
 use mathlib.Core.Path.{◌≡◌, refl, sym, ap, ◌∙◌}
 use mathlib.Core.Bool.{Bool, true, false}
 use mathlib.Core.List.{List, [], ◌∷◌, ◌++◌, append_assoc, append-nil}
-use mathlib.Core.Option.{Option, none, some}
 use Prim.Native.Nat.{ℕ, suc, ◌+◌, ◌-◌, ◌<◌}
 use native.Mathlib.Numerals.{add-one}
 use native.Mathlib.Omega.{arith}
@@ -15,7 +15,6 @@ use Rattle.rules.specs.SpellProgram.{spell_program}
 use Rattle.rules.specs.Refusals.{refusal}
 use Rattle.rules.specs.WhatComesBack.{write_or, room_call}
 use Rattle.rules.specs.declared.Refusal.{Refusal}
-use Rattle.rules.specs.declared.WriteAnswer.TheVariants.{Wrote}
 use Rattle.rules.proofs.StaysInRange.{read_front}
 use Rattle.output.specs.Front.{put}
 use Rattle.lines.specs.Programs.{answer_of}
@@ -26,15 +25,15 @@ use Rattle.stream.specs.declared.Begun.{Begun}
 use Rattle.stream.proofs.FirstBytes.{alike}
 
 -- what is written of a text into a lent output, if it is not refused, is the text; so of the last line, which counts if not empty
-put_read : (text out : List ℕ) (n : ℕ) → (put text out).answer ≡ Wrote n → take n (put text out).output ≡ text
+put_read : (text out : List ℕ) (n : ℕ) → (put text out).answer ≡ Ok n → take n (put text out).output ≡ text
 unfolding put
 put_read text out n e = go (refusal (room_call text out)) e
   where
-    go : (o : Option Refusal) → (write_or o text out).answer ≡ Wrote n → take n (write_or o text out).output ≡ text
-    go none f = let l : length text ≡ n = cc in read_front text out n l
-    go (some x) f = let z : ◌≡◌ {A = ℕ} 0 1 = cc in absurd (omega arith)
+    go : (o : Option Refusal) → (write_or o text out).answer ≡ Ok n → take n (write_or o text out).output ≡ text
+    go None f = let l : length text ≡ n = cc in read_front text out n l
+    go (Some x) f = let z : ◌≡◌ {A = ℕ} 0 1 = cc in absurd (omega arith)
 
-last_read : (q : Program) (l out : List ℕ) (n : ℕ) → (finish_or q l out).answer ≡ Wrote n → take n (finish_or q l out).output ≡ answers (answer_of q) (last_line l)
+last_read : (q : Program) (l out : List ℕ) (n : ℕ) → (finish_or q l out).answer ≡ Ok n → take n (finish_or q l out).output ≡ answers (answer_of q) (last_line l)
 last_read q [] out n e = let z : n ≡ 0 = cc in ap (λ (k : ℕ). take k out) z
 last_read q (b ∷ bs) out n e = put_read (answer_of q (b ∷ bs)) out n e ∙ sym (append-nil (answer_of q (b ∷ bs)))
 

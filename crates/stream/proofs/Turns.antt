@@ -5,14 +5,14 @@ use mathlib.Core.List.{List, [], ◌++◌, append-nil, append_assoc}
 use Prim.Native.Nat.{ℕ, suc, ◌+◌, ◌-◌, ◌≤◌, ◌<◌}
 use native.Mathlib.Omega.{arith}
 use borrow.Author.Tests.{leb-true}
-use lib.Dec.{eqb, leb, ltb}
+use lib.Dec.{eqb, leb}
 use lib.ListN.{length, take, drop, get_or, length-append, length-take, length-drop, take-append-drop, drop_of_length-le}
 use lib.Seq.{drop-cons, drop-drop, take_at, drop_at, length-take-le}
+use Rattle.std.specs.Prelude.{Option, Some, None}
 use Rattle.rules.specs.TheWord.{at_front}
 use Rattle.rules.specs.Drill.{newline}
-use Rattle.stream.specs.Feeding.{most_kept, begun_of, answer_now, kept_if, kept, ByteFed, byte_if, byte_fed, Feeding, stopped, after, feeding, put_at, byte_done, fed_of}
+use Rattle.stream.specs.Feeding.{answer_now, ByteFed, byte_if, byte_fed, Feeding, stopped, after, feeding, put_at, place_if, place_after, fed_of}
 use Rattle.stream.specs.declared.Begun.{Begun}
-use Rattle.stream.specs.declared.AfterByte.{AfterByte}
 use Rattle.stream.specs.declared.Fed.{Fed}
 
 -- what a byte writes has room
@@ -35,19 +35,14 @@ stuck_nothing s b room = go (eqb b newline) (leb (length (answer_now s)) room)
     go true true d = let z : ◌≡◌ {A = ℕ} 0 1 = cc in absurd (omega arith)
     go true false d = refl
 
--- the program stays
-same_program : (s : Begun) (b room : ℕ) → (byte_fed s b room).state.program ≡ s.program
-unfolding byte_fed kept
-same_program s b room = go (eqb b newline) (leb (length (answer_now s)) room)
-  where
-    more : (c : Bool) → (kept_if c s b).program ≡ s.program
-    more true = refl
-    more false = refl
+-- what the place says
+no_place : (c : Bool) (n : ℕ) → place_if c n ≡ None → c ≡ true
+no_place true n e = refl
+no_place false n e = cc
 
-    go : (e f : Bool) → (byte_if e f s b).state.program ≡ s.program
-    go false f = more (ltb s.length most_kept)
-    go true true = refl
-    go true false = refl
+a_place : (c : Bool) (n k : ℕ) → place_if c n ≡ Some k → (c ≡ false) × (k ≡ n)
+a_place true n k e = cc
+a_place false n k e = (refl, cc)
 
 -- a block's next byte: stuck, or the rest after it
 module _ (s : Begun) (block : List ℕ) (i room : ℕ) (inside : i < length block) where
@@ -111,36 +106,33 @@ module _ (s₀ : Begun) (block : List ℕ) (from : ℕ) (out₀ : List ℕ) wher
     abbrev f : ByteFed
     f = byte_fed s (get_or block i 0) left
 
-    module _ (inside : i < length block) (r : AfterByte) (line next : List ℕ) (step : r ≡ byte_done at f) (held : line ≡ f.state.line) (put : next ≡ put_at at f.text out) where
-      pub at_stuck : r.stuck ≡ true → Comes s₀ block from out₀ (record { state = begun_of s.program line s.length; taken = i; written = at }) next
+    module _ (inside : i < length block) (r : Option ℕ) (x : Begun) (next : List ℕ) (place : r ≡ place_after at f) (state : x ≡ f.state) (put : next ≡ put_at at f.text out) where
+      pub at_stuck : r ≡ None → Comes s₀ block from out₀ (record { state = x; taken = i; written = at }) next
       at_stuck e =
-          let stuck = sym (ap (λ (x : AfterByte). x.stuck) step) ∙ e in
+          let stuck = no_place f.stuck (at + length f.text) (sym place ∙ e) in
           let last = ends (turn s block i left inside true stuck) in
           let nothing = stuck_nothing s (get_or block i 0) left stuck in
-          let as_was : line ≡ s.line = held ∙ ap (λ (g : ByteFed). g.state.line) nothing in
+          let as_was : x ≡ s = state ∙ ap (λ (g : ByteFed). g.state) nothing in
           record {
-            answer = ap (λ (l : List ℕ). record { state = begun_of s.program l s.length; taken = i; written = at }) as_was ∙ last.answer;
+            answer = ap (λ (y : Begun). record { state = y; taken = i; written = at }) as_was ∙ last.answer;
             output = put ∙ ap (λ (g : ByteFed). put_at at g.text out) nothing ∙ take-append-drop at out ∙ last.output;
           }
 
       pub as_long : length next ≡ length out
       as_long = ap length put ∙ simp (length-append, length-take, length-drop) (omega (arith, so.within, text_fits s (get_or block i 0) left))
 
-      -- the state after the byte, put together
-      together : begun_of s.program line r.length ≡ f.state
-      together = λ u. begun_of (sym (same_program s (get_or block i 0) left) u) (held u) (step u).length
-
-      pub one_more : r.stuck ≡ false → SoFar s₀ block from out₀ next (begun_of s.program line r.length) r.at (i + 1)
-      one_more e =
+      pub one_more : (behind : ℕ) → r ≡ Some behind → SoFar s₀ block from out₀ next x behind (i + 1)
+      one_more behind e =
+          let goes = a_place f.stuck (at + length f.text) behind (sym place ∙ e) in
           let text = f.text in
           let room = text_fits s (get_or block i 0) left in
           let split : next ≡ (take at out ++ text) ++ drop (length text) (drop at out) = put ∙ sym (append_assoc (take at out) text (drop (length text) (drop at out))) in
           let n : length (take at out ++ text) ≡ at + length text = length-append (take at out) text ∙ ap (λ (k : ℕ). k + length text) (length-take-le at out so.within) in
-          let m : r.at ≡ at + length text = ap (λ (x : AfterByte). x.at) step in
-          let l : length (take at out ++ text) ≡ r.at = n ∙ sym m in
-          let front : take r.at next ≡ take at out ++ text = ap (take r.at) split ∙ take_at (take at out ++ text) (drop (length text) (drop at out)) r.at l in
-          let back : drop r.at next ≡ drop (length text) (drop at out) = ap (drop r.at) split ∙ drop_at (take at out ++ text) (drop (length text) (drop at out)) r.at l in
-          let k : length next - r.at ≡ left - length text = omega (arith, as_long, m, so.within, room) in
+          let m = goes.1 in
+          let l : length (take at out ++ text) ≡ behind = n ∙ sym m in
+          let front : take behind next ≡ take at out ++ text = ap (take behind) split ∙ take_at (take at out ++ text) (drop (length text) (drop at out)) behind l in
+          let back : drop behind next ≡ drop (length text) (drop at out) = ap (drop behind) split ∙ drop_at (take at out ++ text) (drop (length text) (drop at out)) behind l in
+          let k : length next - behind ≡ left - length text = omega (arith, as_long, m, so.within, room) in
           let j : i + 1 - from ≡ i - from + 1 = omega (arith, so.onward) in
           let one : i + 1 ≡ suc i = omega arith in
           let g = feeding f.state (drop (suc i) block) (left - length text) in
@@ -151,7 +143,7 @@ module _ (s₀ : Begun) (block : List ℕ) (from : ℕ) (out₀ : List ℕ) wher
             long = as_long ∙ so.long;
             rest = back ∙ ap (drop (length text)) so.rest ∙ drop-drop (length text) at out₀ ∙ ap (λ (q : ℕ). drop q out₀) (sym m);
             same =
-                (λ u. after (j u) (front u) (feeding (together u) (drop (one u) block) (k u))) ∙
+                (λ u. after (j u) (front u) (feeding (state u) (drop (one u) block) (k u))) ∙
                 ap₂ (λ (q : ℕ) (t : List ℕ). record { state = g.state; taken = q; text = t }) p (append_assoc (take at out) text g.text) ∙
-                ap (after (i - from) (take at out)) (sym (turn s block i left inside false (sym (ap (λ (x : AfterByte). x.stuck) step) ∙ e))) ∙ so.same;
+                ap (after (i - from) (take at out)) (sym (turn s block i left inside false goes.0)) ∙ so.same;
           }

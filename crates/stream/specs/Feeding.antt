@@ -1,26 +1,20 @@
 -- A stream of a program's lines in blocks: what is kept of the line that has begun, and what feeding bytes writes.
 -- Of a line only the first 99 bytes matter: T or V, a space, and 97 bytes, which are more than a text may have, and more than a word takes.
-use Rattle.std.specs.Prelude.{◌≡◌, Bool, true, false, List, [], ◌∷◌, ◌++◌, ℕ, ◌+◌, ◌*◌, ◌-◌, eqb, leb, ltb, length, take, drop, set, replicate}
+use Rattle.std.specs.Prelude.{◌≡◌, Bool, true, false, List, [], ◌∷◌, ◌++◌, ℕ, ◌+◌, ◌*◌, ◌-◌, eqb, leb, ltb, length, take, drop, set, replicate, Option, Some, None, Ok}
 use Rattle.rules.specs.WhatComesBack.{Written}
 use Rattle.rules.specs.Drill.{newline}
 use Rattle.rules.specs.TheWord.{at_front}
-use Rattle.rules.specs.declared.WriteAnswer.TheVariants.{Wrote}
 use Rattle.lines.specs.Appending.{most_in_line, most_a_byte}
 use Rattle.lines.specs.Programs.{answer_of, line_answer}
 use Rattle.lines.specs.declared.Program.{Program}
 use Rattle.stream.specs.declared.Begun.{Begun}
 use Rattle.stream.specs.declared.Fed.{Fed}
-use Rattle.stream.specs.declared.AfterByte.{AfterByte}
 
 abbrev pub most_kept : ℕ
 most_kept = 99
 
 abbrev pub none_begun : Program → Begun
 none_begun p = record { program = p; line = replicate most_kept 0; length = 0 }
-
--- the state that a program, a line and a length are
-abbrev pub begun_of : Program → List ℕ → ℕ → Begun
-begun_of p line n = record { program = p; line = line; length = n }
 
 -- the line that has begun, as far as it is kept
 abbrev pub line_of : Begun → List ℕ
@@ -85,15 +79,19 @@ abbrev pub put_at : ℕ → List ℕ → List ℕ → List ℕ
 put_at at text out = take at out ++ at_front text (drop at out)
 
 -- what the functions answer
-abbrev pub byte_done : ℕ → ByteFed → AfterByte
-byte_done at f = record { length = f.state.length; at = at + length f.text; stuck = f.stuck }
+abbrev pub place_if : Bool → ℕ → Option ℕ
+place_if true n = None
+place_if false n = Some n
+
+abbrev pub place_after : ℕ → ByteFed → Option ℕ
+place_after at f = place_if f.stuck (at + length f.text)
 
 abbrev pub fed_of : ℕ → Feeding → Fed
 fed_of from f = record { state = f.state; taken = from + f.taken; written = length f.text }
 
 -- A last line without a newline counts if not empty.
 abbrev pub finish_or : Program → List ℕ → List ℕ → Written
-finish_or p [] out = record { answer = Wrote 0; output = out }
+finish_or p [] out = record { answer = Ok 0; output = out }
 finish_or p (b ∷ bs) out = line_answer p (b ∷ bs) out
 
 abbrev pub finishing : Begun → List ℕ → Written
@@ -102,7 +100,7 @@ finishing s out = finish_or s.program (line_of s) out
 -- A run from a state over the bytes still to come, and all that it writes. Blocks are cut anywhere, each is fed with any room, and what it does not take is fed again;
 -- at the end it is finished into an output with room for the last answer.
 pub data Run : Begun → List ℕ → List ℕ → Type 0 where
-  finished : {s : Begun} (out : List ℕ) (n : ℕ) → (finishing s out).answer ≡ Wrote n → Run s [] (take n (finishing s out).output)
+  finished : {s : Begun} (out : List ℕ) (n : ℕ) → (finishing s out).answer ≡ Ok n → Run s [] (take n (finishing s out).output)
   fed : {s : Begun} (block later : List ℕ) (room : ℕ) {text : List ℕ}
       → Run (feeding s block room).state (drop (feeding s block room).taken block ++ later) text
       → Run s (block ++ later) ((feeding s block room).text ++ text)

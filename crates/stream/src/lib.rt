@@ -1,21 +1,22 @@
 // A stream of a program's lines through fixed buffers: lines of any length, in blocks cut anywhere.
 #![tactic(auto)]
 
-ghost use Rattle.std.specs.Prelude.{◌≡◌, ◌-◌, ◌≤◌, min, length, drop};
+ghost use Rattle.std.specs.Prelude.{◌≡◌, ◌-◌, ◌≤◌, length, drop};
 ghost use Rattle.rules.specs.TheWord.{at_front};
 ghost use Rattle.output.specs.Front.{put};
 ghost use Rattle.lines.specs.Programs.{header_of};
 ghost use Rattle.lines.specs.declared.Program.{Program};
-ghost use Rattle.stream.specs.Feeding.{none_begun, begun_of, kept, byte_fed, feeding, put_at, byte_done, fed_of, finishing};
+ghost use Rattle.stream.specs.Feeding.{none_begun, line_of, kept, byte_fed, place_after, feeding, put_at, fed_of, finishing};
 
 use lines::Program;
-use rules::WriteAnswer;
+use rules::Refusal;
 
-// The program, and the line that has begun: its first bytes, as many as an answer can depend on, and how many they are.
+// The program, and the line that has begun: its first bytes, as many as an answer can depend on, and how many they are. An array with its
+// count, since nothing is allocated; any length may be handed in, so the type has no invariant.
 #[derive(Clone, Copy)]
 pub struct Begun {
     pub program: Program,
-    pub line: [u8; 99],
+    pub line: [u8; Begun::MOST],
     pub length: usize,
 }
 
@@ -27,14 +28,6 @@ pub struct Fed {
     pub written: usize,
 }
 
-// After one byte: how much of a line has begun, the place in the output behind what is written, and whether there was no room.
-#[derive(Clone, Copy)]
-struct AfterByte {
-    length: usize,
-    at: usize,
-    stuck: bool,
-}
-
 impl Begun {
     pub const MOST: usize = 99;
 
@@ -42,15 +35,49 @@ impl Begun {
         ensures { result ≡ none_begun program }
     {
         Begun {
-            program: program,
-            line: [0; 99],
+            program,
+            line: [0; Begun::MOST],
             length: 0,
         }
+    }
+
+    // The line that has begun, as far as it is kept.
+    fn held(&self) -> &[u8]
+        ensures { result.now ≡ line_of self.now }
+    {
+        &self.line[..self.length.min(Begun::MOST)]
+    }
+
+    fn keep(&mut self, b: u8)
+        ensures { self.new ≡ kept self.old b }
+    {
+        if self.length < Begun::MOST {
+            self.line[self.length] = b;
+            self.length += 1;
+        }
+    }
+
+    // One byte: the place in the output behind what is written, or none where there is no room for the answer.
+    // The state is lent and changed where it lies: handed on by value it is copied each time.
+    fn feed_byte(&mut self, b: u8, out: &mut [u8], at: usize) -> Option<usize>
+        requires { at ≤ length out.old }
+        ensures { (result ≡ place_after at (byte_fed self.old b (length out.old - at))) × (self.new ≡ (byte_fed self.old b (length out.old - at)).state) × (out.new ≡ put_at at (byte_fed self.old b (length out.old - at)).text out.old) }
+    {
+        if b != b'\n' {
+            self.keep(b);
+            return Some(at);
+        }
+        let answer = lines::answer_line(self.program, self.held(), &mut out[at..]);
+        let Ok(written) = answer else {
+            return None;
+        };
+        self.length = 0;
+        Some(at + written)
     }
 }
 
 // What stands in front of all answers, at the front of the output: the drill's first line, and nothing for the speller. Refusals: 4 with the bytes needed; the output is then as it was.
-pub fn header(program: Program, out: &mut [u8]) -> WriteAnswer
+pub fn header(program: Program, out: &mut [u8]) -> Result<usize, Refusal>
     ensures { (result ≡ (put (header_of program) out.old).answer) × (out.new ≡ (put (header_of program) out.old).output) }
 {
     match program {
@@ -65,104 +92,35 @@ pub fn header(program: Program, out: &mut [u8]) -> WriteAnswer
     }
 }
 
-fn least(a: usize, b: usize) -> usize
-    ensures { result ≡ min a b }
-{
-    if a < b { a } else { b }
-}
-
-fn keep(line: &mut [u8; 99], length: usize, b: u8) -> usize
-    ensures { (p : Program) → begun_of p line.new result ≡ kept (begun_of p line.old length) b }
-{
-    if length < Begun::MOST {
-        line[length] = b;
-        return length + 1;
-    }
-    length
-}
-
-// One byte, after so many of a line. The line is lent and changed where it lies: a state that is handed on by value is copied each time.
-fn feed_byte(
-    program: Program,
-    line: &mut [u8; 99],
-    begun: usize,
-    b: u8,
-    out: &mut [u8],
-    at: usize,
-) -> AfterByte
-    requires { at ≤ length out.old }
-    ensures { (result ≡ byte_done at (byte_fed (begun_of program line.old begun) b (length out.old - at))) × (line.new ≡ (byte_fed (begun_of program line.old begun) b (length out.old - at)).state.line) × (out.new ≡ put_at at (byte_fed (begun_of program line.old begun) b (length out.old - at)).text out.old) }
-{
-    if b != b'\n' {
-        return AfterByte {
-            length: keep(line, begun, b),
-            at: at,
-            stuck: false,
-        };
-    }
-    let n = least(begun, Begun::MOST);
-    let held = &line[..];
-    let answer = lines::answer_line(program, &held[0..n], &mut out[at..]);
-    let WriteAnswer::Wrote(written) = answer else {
-        return AfterByte {
-            length: begun,
-            at: at,
-            stuck: true,
-        };
-    };
-    AfterByte {
-        length: 0,
-        at: at + written,
-        stuck: false,
-    }
-}
-
 // The bytes of a block from a place on, until it ends or the output has no room for the next answer.
-pub fn feed(state: Begun, block: &[u8], from: usize, out: &mut [u8]) -> Fed
+pub fn feed(mut state: Begun, block: &[u8], from: usize, out: &mut [u8]) -> Fed
     ensures { (result ≡ fed_of from (feeding state (drop from block.now) (length out.old))) × (out.new ≡ at_front (feeding state (drop from block.now) (length out.old)).text out.old) }
 {
-    let program = state.program;
-    let mut line = state.line;
-    let mut length = state.length;
     let mut at = 0;
-    let mut i = from;
-    while i < block.len() {
-        let step = feed_byte(program, &mut line, length, block[i], out, at);
-        if step.stuck {
+    // By places: the one where the room ends is handed back, and `from` may lie past the block.
+    for i in from..block.len() {
+        let Some(behind) = state.feed_byte(block[i], out, at) else {
             return Fed {
-                state: Begun {
-                    program: program,
-                    line: line,
-                    length: length,
-                },
+                state,
                 taken: i,
                 written: at,
             };
-        }
-        length = step.length;
-        at = step.at;
-        i += 1;
+        };
+        at = behind;
     }
     Fed {
-        state: Begun {
-            program: program,
-            line: line,
-            length: length,
-        },
-        taken: i,
+        state,
+        taken: from.max(block.len()),
         written: at,
     }
 }
 
 // The end of the input: a last line without a newline, if one has begun. Refusals: 4 with the bytes needed; the output is then as it was.
-pub fn finish(state: Begun, out: &mut [u8]) -> WriteAnswer
+pub fn finish(state: Begun, out: &mut [u8]) -> Result<usize, Refusal>
     ensures { (result ≡ (finishing state out.old).answer) × (out.new ≡ (finishing state out.old).output) }
 {
     if state.length == 0 {
-        return WriteAnswer::Wrote(0);
+        return Ok(0);
     }
-    let program = state.program;
-    let line = state.line;
-    let n = least(state.length, Begun::MOST);
-    lines::answer_line(program, &line[0..n], out)
+    lines::answer_line(state.program, state.held(), out)
 }

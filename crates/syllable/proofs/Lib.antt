@@ -1,6 +1,5 @@
 pub mod PackedWords
 pub mod Keys
-pub mod Singles
 pub mod Rows
 pub mod Agreements
 pub mod Bases

@@ -3,7 +3,6 @@ use Rattle.std.specs.Prelude.{true, false, List, [], ◌∷◌, ◌++◌, ℕ, e
 use Rattle.rules.specs.Letters.{Letters, one_of}
 use Rattle.rules.specs.TakingApart.{Row, rows}
 use Rattle.syllable.specs.Numbers.{num, plain_of}
-use Rattle.syllable.specs.declared.nuclei.Three.{Three}
 
 abbrev pub nuclei_of : List Row → List Letters
 nuclei_of [] = []
@@ -29,5 +28,5 @@ unfoldable pub with_bases : ℕ → List Letters
 with_bases p = with_bases_in p (nuclei_of rows)
 
 -- three of them, as numbers
-abbrev pub three_of : List Letters → Three
-three_of zs = record { 0 = num (get_or zs 0 []); 1 = num (get_or zs 1 []); 2 = num (get_or zs 2 []) }
+abbrev pub three_of : List Letters → List ℕ
+three_of zs = num (get_or zs 0 []) ∷ num (get_or zs 1 []) ∷ num (get_or zs 2 []) ∷ []

@@ -21,10 +21,10 @@ use words::*;
 fn digit_at(part: &[u16], i: usize) -> u64
     ensures { (result ≡ digit_at_of i (map letter part.now)) × (result < 4096) }
 {
-    if i < part.len() {
-        return 2 * ((part[i] % CAPITAL) as u64) + 1;
+    match part.get(i) {
+        Some(&letter) => 2 * u64::from(letter % CAPITAL) + 1,
+        None => 0,
     }
-    0
 }
 
 // A part of a word as one number: its first three letters as digits, and MORE where there are more.
@@ -32,10 +32,7 @@ fn packed(part: &[u16]) -> u64
     ensures { result ≡ packed_of (map letter part.now) }
 {
     let three = digit_at(part, 0) + NEXT * (digit_at(part, 1) + NEXT * digit_at(part, 2));
-    if 3 < part.len() {
-        return three + MORE;
-    }
-    three
+    if 3 < part.len() { three + MORE } else { three }
 }
 
 // The base of a word's first letter, 0 where there is none.
@@ -49,15 +46,13 @@ fn first_base(p: u64) -> u8
 fn known_initial(ini: u64) -> bool
     ensures { (w : Letters) → Packs ini w → result ≡ one_of w initials }
 {
-    if ini == NONE {
-        return true;
-    }
     if ini < SHAPE {
-        return classes::is_initial(first_base(ini));
-    }
-    match ini {
-        DD | CH | GH | GI | KH | NG | NH | PH | QU | TH | TR | NGH => true,
-        _ => false,
+        ini == NONE || classes::is_initial(first_base(ini))
+    } else {
+        matches!(
+            ini,
+            DD | CH | GH | GI | KH | NG | NH | PH | QU | TH | TR | NGH
+        )
     }
 }
 
@@ -65,13 +60,14 @@ fn known_initial(ini: u64) -> bool
 fn initial_fits(ini: u64, v: u8) -> bool
     ensures { (w : Letters) → Packs ini w → result ≡ fit w v }
 {
+    // No `matches!` of the bases: it branches and joins in each arm, and `|` is the rule's own test as one value.
     match ini {
         C | NG => !((v == b'e') | ((v == b'i') | (v == b'y'))),
         G => !((v == b'e') | (v == b'y')),
         K => (v == b'e') | ((v == b'i') | (v == b'y')),
         GH | NGH => (v == b'e') | (v == b'i'),
         GI => !((v == b'i') | (v == b'y')),
-        QU => !(v == b'u'),
+        QU => v != b'u',
         _ => true,
     }
 }
@@ -80,15 +76,10 @@ fn initial_fits(ini: u64, v: u8) -> bool
 fn known_final(fin: u64) -> bool
     ensures { (w : Letters) → Packs fin w → result ≡ one_of w finals }
 {
-    if fin == NONE {
-        return true;
-    }
     if fin < SHAPE {
-        return classes::is_final(first_base(fin));
-    }
-    match fin {
-        CH | NG | NH => true,
-        _ => false,
+        fin == NONE || classes::is_final(first_base(fin))
+    } else {
+        matches!(fin, CH | NG | NH)
     }
 }
 
@@ -96,26 +87,25 @@ fn known_final(fin: u64) -> bool
 fn stop(fin: u64) -> bool
     ensures { (w : Letters) → Packs fin w → result ≡ stop_of w }
 {
-    if fin == NONE {
-        return false;
-    }
     if fin < SHAPE {
-        return classes::is_stop(first_base(fin));
+        fin != NONE && classes::is_stop(first_base(fin))
+    } else {
+        fin == CH
     }
-    fin == CH
 }
 
 // Fits: tone 1 or 5, or the final is no stop.
 fn tone_fits(fin: u64, tone: u8) -> bool
     ensures { (f : Letters) → Packs fin f → result ≡ fits_of f tone }
 {
-    if (tone == ACUTE) | (tone == DOT) {
-        return true;
+    match tone {
+        ACUTE | DOT => true,
+        _ => !stop(fin),
     }
-    !stop(fin)
 }
 
 // The first of the seven checks that holds, or 0: the one look that verdict and admission take at a word.
+// The number is no answer of the code's own making: the clause says it, and `verdict` hands it out, so it is no enum.
 // Check 6 asks for the nucleus as it stands; where its letters are free, for some listed nucleus that could still come of them.
 fn ask(s: &[u16], tone: u8, free: bool) -> u8
     ensures { result ≡ first_fault (map letter s.now) tone free }
@@ -142,13 +132,8 @@ fn ask(s: &[u16], tone: u8, free: bool) -> u8
     if !known_final(fin) {
         return 5;
     }
-    if !listed(ini, nuc, fin) {
-        if !free {
-            return 6;
-        }
-        if !some_agrees(ini, nuc, fin) {
-            return 6;
-        }
+    if !(listed(ini, nuc, fin) || (free && some_agrees(ini, nuc, fin))) {
+        return 6;
     }
     if !tone_fits(fin, tone) {
         return 7;

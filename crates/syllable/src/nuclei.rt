@@ -13,34 +13,13 @@ fn in_table(nuc: u64, fin: u64) -> bool
     ensures { (v f : Letters) → Packs nuc v → Packs fin f → result ≡ in_row (row_of v) f }
 {
     match nuc {
-        A | OA => match fin {
-            NONE | C | CH | M | N | NG | NH | P | T => true,
-            _ => false,
-        },
-        E | O | OO | U | UW | OE => match fin {
-            NONE | C | M | N | NG | P | T => true,
-            _ => false,
-        },
-        AW | AA | OAW | UAA | IEE | YEE | UOO | UWOW => match fin {
-            C | M | N | NG | P | T => true,
-            _ => false,
-        },
-        I | EE | UEE => match fin {
-            NONE | CH | M | N | NH | P | T => true,
-            _ => false,
-        },
-        OW => match fin {
-            NONE | M | N | P | T => true,
-            _ => false,
-        },
-        Y | UY => match fin {
-            NONE | CH | N | NH | P | T => true,
-            _ => false,
-        },
-        UYEE => match fin {
-            N | T => true,
-            _ => false,
-        },
+        A | OA => matches!(fin, NONE | C | CH | M | N | NG | NH | P | T),
+        E | O | OO | U | UW | OE => matches!(fin, NONE | C | M | N | NG | P | T),
+        AW | AA | OAW | UAA | IEE | YEE | UOO | UWOW => matches!(fin, C | M | N | NG | P | T),
+        I | EE | UEE => matches!(fin, NONE | CH | M | N | NH | P | T),
+        OW => matches!(fin, NONE | M | N | P | T),
+        Y | UY => matches!(fin, NONE | CH | N | NH | P | T),
+        UYEE => matches!(fin, N | T),
         AI | AO | AU | AY | AAU | AAY | EO | EEU | IA | IU => fin == NONE,
         OI | OOI | OWI | UA | UI | UWA | UWI | UWU => fin == NONE,
         IEEU | YEEU | OAI | OAY | OEO | UAAY | UOOI | UYA => fin == NONE,
@@ -53,10 +32,7 @@ fn in_table(nuc: u64, fin: u64) -> bool
 fn takes(ini: u64, nuc: u64, fin: u64) -> bool
     ensures { (w v f : Letters) → Packs ini w → Packs nuc v → Packs fin f → result ≡ takes_of w (row_of v) v f }
 {
-    if in_table(nuc, fin) {
-        return true;
-    }
-    (ini == GI) & ((nuc == EE) & (fin == NG))
+    in_table(nuc, fin) || (ini == GI && nuc == EE && fin == NG)
 }
 
 // uơ stands only after h, kh and th, yê and yêu only after no initial or qu. After qu, no nucleus of two or more letters begins with o in any shape.
@@ -64,15 +40,13 @@ fn stands(ini: u64, nuc: u64) -> bool
     ensures { (w v : Letters) → Packs ini w → Packs nuc v → result ≡ stands_of w v }
 {
     if nuc == UOW {
-        return (ini == H) | ((ini == KH) | (ini == TH));
+        return matches!(ini, H | KH | TH);
     }
-    if ini == QU {
-        return !((NEXT <= nuc) & (nuc % SHAPE == O));
+    match ini {
+        QU => nuc < NEXT || nuc % SHAPE != O,
+        NONE => true,
+        _ => nuc != YEE && nuc != YEEU,
     }
-    if ini == NONE {
-        return true;
-    }
-    !((nuc == YEE) | (nuc == YEEU))
 }
 
 // The nucleus, in letters and shapes, is in the list, is allowed after this initial, and with this final.
@@ -89,54 +63,50 @@ fn plain(p: u64) -> u64
     p % SHAPE + NEXT * (p / NEXT % SHAPE + NEXT * (p / NEXT / NEXT % SHAPE))
 }
 
-// Up to three nuclei; NONE where there are fewer.
-#[derive(Clone, Copy)]
-struct Three(u64, u64, u64);
-
-// The listed nuclei with these base letters, in the order of the list: so at most three are asked, and not all 55.
-fn with_bases(bases: u64) -> Three
+// The listed nuclei with these base letters, in the order of the list, and NONE where there are fewer: so at most three are asked, and not all 55.
+fn with_bases(bases: u64) -> [u64; 3]
     ensures { (result ≡ three_of (with_bases_of bases)) × (length (with_bases_of bases) ≤ 3) }
 {
     match bases {
-        A => Three(A, AW, AA),
-        OA => Three(OA, OAW, NONE),
-        E => Three(E, EE, NONE),
-        O => Three(O, OO, OW),
-        U => Three(U, UW, NONE),
-        OE => Three(OE, NONE, NONE),
-        UA => Three(UAA, UA, UWA),
-        IE => Three(IEE, NONE, NONE),
-        YE => Three(YEE, NONE, NONE),
-        UO => Three(UOO, UWOW, UOW),
-        I => Three(I, NONE, NONE),
-        UE => Three(UEE, NONE, NONE),
-        Y => Three(Y, NONE, NONE),
-        UY => Three(UY, NONE, NONE),
-        UYE => Three(UYEE, NONE, NONE),
-        AI => Three(AI, NONE, NONE),
-        AO => Three(AO, NONE, NONE),
-        AU => Three(AU, AAU, NONE),
-        AY => Three(AY, AAY, NONE),
-        EO => Three(EO, NONE, NONE),
-        EU => Three(EEU, NONE, NONE),
-        IA => Three(IA, NONE, NONE),
-        IU => Three(IU, NONE, NONE),
-        OI => Three(OI, OOI, OWI),
-        UI => Three(UI, UWI, NONE),
-        UU => Three(UWU, NONE, NONE),
-        IEU => Three(IEEU, NONE, NONE),
-        YEU => Three(YEEU, NONE, NONE),
-        OAI => Three(OAI, NONE, NONE),
-        OAY => Three(OAY, NONE, NONE),
-        OEO => Three(OEO, NONE, NONE),
-        UAY => Three(UAAY, NONE, NONE),
-        UOI => Three(UOOI, UWOWI, NONE),
-        UYA => Three(UYA, NONE, NONE),
-        UOU => Three(UWOWU, NONE, NONE),
-        UYU => Three(UYU, NONE, NONE),
-        UEU => Three(UEEU, NONE, NONE),
-        OAO => Three(OAO, NONE, NONE),
-        _ => Three(NONE, NONE, NONE),
+        A => [A, AW, AA],
+        OA => [OA, OAW, NONE],
+        E => [E, EE, NONE],
+        O => [O, OO, OW],
+        U => [U, UW, NONE],
+        OE => [OE, NONE, NONE],
+        UA => [UAA, UA, UWA],
+        IE => [IEE, NONE, NONE],
+        YE => [YEE, NONE, NONE],
+        UO => [UOO, UWOW, UOW],
+        I => [I, NONE, NONE],
+        UE => [UEE, NONE, NONE],
+        Y => [Y, NONE, NONE],
+        UY => [UY, NONE, NONE],
+        UYE => [UYEE, NONE, NONE],
+        AI => [AI, NONE, NONE],
+        AO => [AO, NONE, NONE],
+        AU => [AU, AAU, NONE],
+        AY => [AY, AAY, NONE],
+        EO => [EO, NONE, NONE],
+        EU => [EEU, NONE, NONE],
+        IA => [IA, NONE, NONE],
+        IU => [IU, NONE, NONE],
+        OI => [OI, OOI, OWI],
+        UI => [UI, UWI, NONE],
+        UU => [UWU, NONE, NONE],
+        IEU => [IEEU, NONE, NONE],
+        YEU => [YEEU, NONE, NONE],
+        OAI => [OAI, NONE, NONE],
+        OAY => [OAY, NONE, NONE],
+        OEO => [OEO, NONE, NONE],
+        UAY => [UAAY, NONE, NONE],
+        UOI => [UOOI, UWOWI, NONE],
+        UYA => [UYA, NONE, NONE],
+        UOU => [UWOWU, NONE, NONE],
+        UYU => [UYU, NONE, NONE],
+        UEU => [UEEU, NONE, NONE],
+        OAO => [OAO, NONE, NONE],
+        _ => [NONE, NONE, NONE],
     }
 }
 
@@ -151,26 +121,16 @@ fn agrees_at(x: u64, z: u64) -> bool
 fn agrees(nuc: u64, z: u64) -> bool
     ensures { (v l : Letters) → Packs nuc v → Numbers z l → result ≡ agrees_of v l }
 {
-    if !agrees_at(nuc % NEXT, z % NEXT) {
-        return false;
-    }
-    agrees_at(nuc / NEXT % NEXT, z / NEXT % NEXT) & agrees_at(nuc / NEXT / NEXT, z / NEXT / NEXT)
+    agrees_at(nuc % NEXT, z % NEXT)
+        && agrees_at(nuc / NEXT % NEXT, z / NEXT % NEXT)
+        && agrees_at(nuc / NEXT / NEXT, z / NEXT / NEXT)
 }
 
 // Could the letters become this listed nucleus: an empty final is always taken.
 fn could_be(ini: u64, nuc: u64, fin: u64, z: u64) -> bool
     ensures { (w v f l : Letters) → Packs ini w → Packs nuc v → Packs fin f → Numbers z l → result ≡ could_be_of w v f (row_of l) l }
 {
-    if !agrees(nuc, z) {
-        return false;
-    }
-    if !stands(ini, z) {
-        return false;
-    }
-    if fin == NONE {
-        return true;
-    }
-    takes(ini, z, fin)
+    agrees(nuc, z) && stands(ini, z) && (fin == NONE || takes(ini, z, fin))
 }
 
 // Some listed nucleus agrees, may stand after this initial, and takes this final.
@@ -180,12 +140,9 @@ pub(crate) fn some_agrees(ini: u64, nuc: u64, fin: u64) -> bool
     if nuc == NONE {
         return false;
     }
-    let z = with_bases(plain(nuc));
-    if could_be(ini, nuc, fin, z.0) {
-        return true;
-    }
-    if could_be(ini, nuc, fin, z.1) {
-        return true;
-    }
-    could_be(ini, nuc, fin, z.2)
+    // No `any` over the three: the contract of `could_be` speaks of a word's letters, and a closure's has to compute from the number.
+    let [first, second, third] = with_bases(plain(nuc));
+    could_be(ini, nuc, fin, first)
+        || could_be(ini, nuc, fin, second)
+        || could_be(ini, nuc, fin, third)
 }

@@ -2,7 +2,7 @@
 use mathlib.Core.Path.{◌≡◌, refl, sym, ap, ◌∙◌}
 use mathlib.Core.Bool.{Bool, true, false, ◌&&◌, ◌||◌}
 use mathlib.Core.List.{List, [], ◌∷◌, ◌++◌, map, map-append}
-use Prim.Native.Nat.{ℕ, suc, ◌-◌, ◌<◌, ◌≤◌}
+use Prim.Native.Nat.{ℕ, suc, ◌-◌, ◌<◌}
 use Prim.Native.Char.{code}
 use native.Mathlib.Omega.{arith}
 use lib.ListN.{length, take, drop, get_or, take-append-drop}
@@ -12,7 +12,7 @@ use Rattle.rules.specs.TheWord.{letter}
 use Rattle.rules.specs.KeyRoles.{horns_o_alone}
 use Rattle.rules.proofs.Bools.{pick, if_so, and_false}
 use Rattle.rules.proofs.Tests.{some_both}
-use Rattle.rules.proofs.Words.{ended_by, one_ended, empty_one}
+use Rattle.rules.proofs.Words.{ended_by, one_ended}
 
 -- letters read off numbers, but the last, and the last
 module _ (s : List ℕ) (some : 0 < length s) where
@@ -29,15 +29,12 @@ module _ (s : List ℕ) (some : 0 < length s) where
       map-append letter before (end ∷ [])
 
   abbrev front : Letters
-  front = map letter (take (length s - 1 - 0) (drop 0 s))
-
-  front_is : map letter before ≡ front
-  front_is = let e : length s - 1 ≡ length s - 1 - 0 = omega arith in ap (λ (k : ℕ). map letter (take k s)) e
+  front = map letter before
 
   -- words that end in one letter
   module _ (y : Letter) (zs : List Letters) where
     by_end : one_of (map letter s) (ended_by y zs) ≡ (is (letter end) y && one_of front zs)
-    by_end = ap (λ (w : Letters). one_of w (ended_by y zs)) split ∙ one_ended (map letter before) (letter end) y zs ∙ ap (λ (w : Letters). is (letter end) y && one_of w zs) front_is
+    by_end = ap (λ (w : Letters). one_of w (ended_by y zs)) split ∙ one_ended (map letter before) (letter end) y zs
 
     pub other_end : is (letter end) y ≡ false → false ≡ one_of (map letter s) (ended_by y zs)
     other_end e = sym (by_end ∙ ap (λ (b : Bool). b && one_of front zs) e)
@@ -76,27 +73,7 @@ module _ (s : List ℕ) (some : 0 < length s) where
   pub an_o : {r : Bool} → ends_in_o ≡ true → r ≡ one_of front (words "hu khu thu") → r ≡ horns_o_alone (map letter s)
   an_o e f = f ∙ sym (o_alone ∙ ap (λ (b : Bool). b && one_of front (words "hu khu thu")) e)
 
--- no letters, one, and more
-pub nothing : (s : List ℕ) → length s ≡ 0 → s ≡ []
-nothing [] e = refl
-nothing (n ∷ s) e = absurd (omega arith)
-
-pub no_end : (s : List ℕ) → length s ≡ 0 → (y : Letter) (zs : List Letters) → false ≡ one_of (map letter s) (ended_by y zs)
-no_end s e y zs = empty_one y zs ∙ ap (λ (l : List ℕ). one_of (map letter l) (ended_by y zs)) (sym (nothing s e))
-
-pub no_letters : (s : List ℕ) → length s ≡ 0 → false ≡ horns_o_alone (map letter s)
-no_letters s e = ap (λ (l : List ℕ). horns_o_alone (map letter l)) (sym (nothing s e))
-
-pub one_k_t : (s : List ℕ) → (length s ≡ 0 → ⊥) → length s ≤ 1 → (is (letter (get_or s 0 0)) (small (code "k") plain) || is (letter (get_or s 0 0)) (small (code "t") plain)) ≡ one_of (map letter s) ([] ∷ words "k t")
-one_k_t [] e h = absurd (e refl)
-one_k_t (n ∷ []) e h = go (is (letter n) (small (code "k") plain)) (is (letter n) (small (code "t") plain))
-  where
-    go : (a b : Bool) → (a || b) ≡ pick true (if_so a true) (pick true (if_so b true) false)
-    go true b = refl
-    go false true = refl
-    go false false = refl
-one_k_t (n ∷ m ∷ s) e h = absurd (omega arith)
-
+-- more letters than one
 pub more_than_one : (s : List ℕ) → 1 < length s → false ≡ one_of (map letter s) ([] ∷ words "k t")
 more_than_one [] h = absurd (omega arith)
 more_than_one (n ∷ []) h = absurd (omega arith)

@@ -1,4 +1,5 @@
 -- In huo, khuo and thuo the o is the last letter; in huơ, khuơ and thuơ the u that gets the horn is the letter before it.
+use Rattle.std.specs.Prelude.{Option, Some, None}
 use mathlib.Core.Path.{◌≡◌, refl, sym, ap, ap₂, ◌∙◌}
 use mathlib.Core.Bool.{Bool, true, false}
 use mathlib.Core.List.{List, [], ◌∷◌, ◌++◌}
@@ -8,8 +9,6 @@ use lib.Dec.{T}
 use lib.ListN.{length, length-append}
 use Rattle.rules.specs.Letters.{Letter, Letters, horn, words}
 use Rattle.rules.specs.KeyRoles.{shaped, awaits_second_horn, horn_on_u, place_of_u, is_o, horns_o_alone}
-use Rattle.rules.specs.declared.Place.{Place}
-use Rattle.rules.specs.declared.Place.TheVariants.{At, Nowhere}
 use Rattle.rules.proofs.Tests.{is_true}
 use Rattle.rules.proofs.Words.{bases, of_words}
 use Rattle.rules.proofs.Appends.{Awaits, awaits}
@@ -25,11 +24,11 @@ one_letter : (w : Letters) → T (o_last (bases w)) → 1 ≤ length w
 one_letter (x ∷ w) t = omega arith
 one_letter [] t = elim t [ ]
 
-o_last_law : (w : Letters) (n : ℕ) → length w ≡ n + 1 → T (o_last (bases w)) → last_place is_o w ≡ At n
-o_last_law (x ∷ []) zero e t = ap (or_this Nowhere) (is_true (is_o x.base) t)
+o_last_law : (w : Letters) (n : ℕ) → length w ≡ n + 1 → T (o_last (bases w)) → last_place is_o w ≡ Some n
+o_last_law (x ∷ []) zero e t = ap (or_this None) (is_true (is_o x.base) t)
 o_last_law (x ∷ []) (suc n) e t = absurd (omega arith)
 o_last_law (x ∷ z ∷ w) zero e t = absurd (omega arith)
-o_last_law (x ∷ z ∷ w) (suc n) e t = ap (λ (p : Place). or_this p (is_o x.base)) (o_last_law (z ∷ w) n (omega arith) t)
+o_last_law (x ∷ z ∷ w) (suc n) e t = ap (λ (p : Option ℕ). or_this p (is_o x.base)) (o_last_law (z ∷ w) n (omega arith) t)
 o_last_law [] n e t = elim t [ ]
 
 module _ (w : Letters) (h : horns_o_alone w ≡ true) where
@@ -39,7 +38,7 @@ module _ (w : Letters) (h : horns_o_alone w ≡ true) where
   pub o_there : 1 ≤ length w
   o_there = one_letter w alone
 
-  pub o_at_end : (n : ℕ) → length w ≡ n + 1 → last_place is_o w ≡ At n
+  pub o_at_end : (n : ℕ) → length w ≡ n + 1 → last_place is_o w ≡ Some n
   o_at_end n e = o_last_law w n e alone
 
 reshape_at : (v : Letters) (x : Letter) (xs : Letters) → reshape (length v) horn (v ++ (x ∷ xs)) ≡ v ++ (shaped horn x ∷ xs)

@@ -7,7 +7,7 @@ ghost use Rattle.rules.specs.TheWord.{letter};
 ghost use Rattle.rules.specs.KeyRoles.{own as own_of, is_aeo as is_aeo_of, is_q as is_q_of, is_pair as is_pair_of, is_single as is_single_of, horns_o_alone as horns_o_alone_of, awaits_second_horn as awaits_second_horn_of};
 ghost use Rattle.targets.specs.Places.{wanted, last_place, pair_place, single_place};
 
-use rules::{CIRCUMFLEX, HORN, PLAIN, Place, ShapeKey};
+use rules::{CIRCUMFLEX, HORN, PLAIN, ShapeKey};
 
 // Circumflex wants its own letter, or a, e or o; breve wants a.
 fn wants(key: ShapeKey, n: u16) -> bool
@@ -18,8 +18,7 @@ fn wants(key: ShapeKey, n: u16) -> bool
         ShapeKey::CircumflexOn(own) => is_own(own, b),
         ShapeKey::Circumflex => is_aeo(b),
         ShapeKey::Breve => b == b'a',
-        ShapeKey::Horn => false,
-        ShapeKey::HornBreve => false,
+        ShapeKey::Horn | ShapeKey::HornBreve => false,
     }
 }
 
@@ -37,31 +36,17 @@ fn is_own(own: u8, b: u8) -> bool
 }
 
 // The last letter with a wanted base.
-pub fn last_wanted(letters: &[u16], key: ShapeKey) -> Place
+pub fn last_wanted(letters: &[u16], key: ShapeKey) -> Option<usize>
     ensures { result ≡ last_place (wanted key) (map letter letters.now) }
 {
-    let mut i = letters.len();
-    while 0 < i {
-        i -= 1;
-        if wants(key, letters[i]) {
-            return Place::At(i);
-        }
-    }
-    Place::Nowhere
+    letters.iter().rposition(|n| wants(key, *n))
 }
 
 // The last letter that a Telex circumflex key wants, its own: the same without asking at each letter which key it is.
-pub fn last_own(letters: &[u16], own: u8) -> Place
+pub fn last_own(letters: &[u16], own: u8) -> Option<usize>
     ensures { result ≡ last_place (own_of own) (map letter letters.now) }
 {
-    let mut at = letters.len();
-    while 0 < at {
-        at -= 1;
-        if is_own(own, rules::base(letters[at])) {
-            return Place::At(at);
-        }
-    }
-    Place::Nowhere
+    letters.iter().rposition(|n| is_own(own, rules::base(*n)))
 }
 
 fn is_q(n: u16) -> bool
@@ -77,19 +62,17 @@ fn is_pair(after_q: bool, first: u16, second: u16) -> bool
 }
 
 // The first u followed directly by o, the u not directly after q.
-pub fn pair(letters: &[u16]) -> Place
+pub fn pair(letters: &[u16]) -> Option<usize>
     ensures { result ≡ pair_place false (map letter letters.now) }
 {
     let mut after_q = false;
-    let mut i = 0;
-    while i + 1 < letters.len() {
-        if is_pair(after_q, letters[i], letters[i + 1]) {
-            return Place::At(i);
+    for (i, [first, second]) in letters.array_windows::<2>().enumerate() {
+        if is_pair(after_q, *first, *second) {
+            return Some(i);
         }
-        after_q = is_q(letters[i]);
-        i += 1;
+        after_q = is_q(*first);
     }
-    Place::Nowhere
+    None
 }
 
 fn is_single(after_q: bool, n: u16) -> bool
@@ -100,90 +83,69 @@ fn is_single(after_q: bool, n: u16) -> bool
 }
 
 // The first o or u not directly after q.
-pub fn single(letters: &[u16]) -> Place
+pub fn single(letters: &[u16]) -> Option<usize>
     ensures { result ≡ single_place false (map letter letters.now) }
 {
     let mut after_q = false;
-    let mut i = 0;
-    while i < letters.len() {
-        if is_single(after_q, letters[i]) {
-            return Place::At(i);
+    for (i, n) in letters.iter().enumerate() {
+        if is_single(after_q, *n) {
+            return Some(i);
         }
-        after_q = is_q(letters[i]);
-        i += 1;
+        after_q = is_q(*n);
     }
-    Place::Nowhere
+    None
 }
 
+// The words of the two rules on huo, from their end: each asks of the last letter, and then of those before it.
 // Nothing, k or t.
 fn is_none_k_t(letters: &[u16]) -> bool
     ensures { result ≡ one_of (map letter letters.now) ([] ∷ words "k t") }
 {
-    let n = letters.len();
-    if n == 0 {
-        return true;
+    match letters {
+        [] => true,
+        [n] => rules::is(*n, b'k', PLAIN) | rules::is(*n, b't', PLAIN),
+        _ => false,
     }
-    if 1 < n {
-        return false;
-    }
-    rules::is(letters[0], b'k', PLAIN) | rules::is(letters[0], b't', PLAIN)
 }
 
 // h, kh or th.
 fn is_h_kh_th(letters: &[u16]) -> bool
     ensures { result ≡ one_of (map letter letters.now) (words "h kh th") }
 {
-    let n = letters.len();
-    if n == 0 {
+    let [before @ .., last] = letters else {
         return false;
-    }
-    if !rules::is(letters[n - 1], b'h', PLAIN) {
-        return false;
-    }
-    is_none_k_t(&letters[0..n - 1])
+    };
+    rules::is(*last, b'h', PLAIN) && is_none_k_t(before)
 }
 
 // These with a plain u.
 fn is_hu(letters: &[u16]) -> bool
     ensures { result ≡ one_of (map letter letters.now) (words "hu khu thu") }
 {
-    let n = letters.len();
-    if n == 0 {
+    let [before @ .., last] = letters else {
         return false;
-    }
-    if !rules::is(letters[n - 1], b'u', PLAIN) {
-        return false;
-    }
-    is_h_kh_th(&letters[0..n - 1])
+    };
+    rules::is(*last, b'u', PLAIN) && is_h_kh_th(before)
 }
 
 // And with an o in any shape at the end: the horn takes this o alone.
 pub fn horns_o_alone(letters: &[u16]) -> bool
     ensures { result ≡ horns_o_alone_of (map letter letters.now) }
 {
-    let n = letters.len();
-    if n == 0 {
+    let [before @ .., last] = letters else {
         return false;
-    }
-    let last = letters[n - 1];
-    if !(rules::is(last, b'o', PLAIN)
-        | (rules::is(last, b'o', CIRCUMFLEX) | rules::is(last, b'o', HORN)))
-    {
-        return false;
-    }
-    is_hu(&letters[0..n - 1])
+    };
+    (rules::is(*last, b'o', PLAIN)
+        | (rules::is(*last, b'o', CIRCUMFLEX) | rules::is(*last, b'o', HORN)))
+        && is_hu(before)
 }
 
 // And with an ơ at the end: a letter that follows may put the horn on the u too.
 pub fn awaits_second_horn(letters: &[u16]) -> bool
     ensures { result ≡ awaits_second_horn_of (map letter letters.now) }
 {
-    let n = letters.len();
-    if n == 0 {
+    let [before @ .., last] = letters else {
         return false;
-    }
-    if !rules::is(letters[n - 1], b'o', HORN) {
-        return false;
-    }
-    is_hu(&letters[0..n - 1])
+    };
+    rules::is(*last, b'o', HORN) && is_hu(before)
 }

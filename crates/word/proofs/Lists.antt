@@ -1,14 +1,18 @@
--- One turn of the loops over a list of keys: how many are allowed, and the word with one key more, in its bytes.
+-- A list of keys: where the first stands that is not allowed, and the word with one key more, in its bytes.
 use mathlib.Core.Path.{◌≡◌, refl, sym, ap, subst, ◌∙◌}
-use mathlib.Core.Bool.{Bool, true, false, ◌&&◌}
+use mathlib.Core.Bool.{Bool, true, false, not, cond, ◌&&◌}
 use mathlib.Core.List.{List, [], ◌∷◌}
 use Prim.Native.Nat.{ℕ, zero, suc, ◌+◌, ◌≤◌, ◌<◌}
 use native.Mathlib.Numerals.{add-one}
 use native.Mathlib.Omega.{arith}
 use lib.Dec.{T}
-use lib.ListN.{length, take, drop, get_or, drop_of_length-le}
-use lib.Seq.{drop-cons, take_all, take-suc, length-take-le}
+use lib.ListN.{length, take, get_or}
+use lib.Seq.{take_all, take-suc, length-take-le}
 use lib.Ieee.Fits.{and_i, and_l, and_r}
+use Rattle.std.specs.Option.{unwrap_or}
+use Rattle.std.specs.Prelude.{Option, Some, None, nat_lt, position}
+use Rattle.std.specs.List.{position_or_len}
+use borrow.Author.Tests.{ltb-true, ltb-false}
 use Rattle.rules.specs.TheWord.{most_keys, new_word, word_of, holding}
 use Rattle.rules.specs.KeyRoles.{is_key}
 use Rattle.rules.specs.Refusals.{all, is_mode, allowed_before, refusal}
@@ -17,27 +21,10 @@ use Rattle.rules.specs.declared.Word.{Word}
 use Rattle.rules.proofs.StaysInRange.{Whole}
 use Rattle.rules.proofs.Typing.{Held, of_modes, new_held, kept_mode, kept_keys, type_append, list_held, steps}
 use Rattle.layout.specs.Places.{as_bytes, as_record}
-use Rattle.layout.specs.declared.RecordRead.{RecordRead}
 use Rattle.layout.proofs.InPlace.{long_word}
 use Rattle.layout.proofs.RoundTrips.{written_read}
 use Rattle.step.specs.InPlace.{step_at}
 use Rattle.step.proofs.StepsAt.{leaves}
-
-module _ (mode : ℕ) (s : List ℕ) (i : ℕ) where
-  abbrev pub counted : ℕ
-  counted = i + allowed_before mode (drop i s)
-
-  turn : (b : Bool) → i < length s → is_key mode (get_or s i 0) ≡ b → allowed_before mode (drop i s) ≡ elim b [ true ↦ suc (allowed_before mode (drop (suc i) s)) | false ↦ 0 ]
-  turn b h e = ap (allowed_before mode) (drop-cons s i 0 h) ∙ ap (λ (c : Bool). elim c [ true ↦ suc (allowed_before mode (drop (suc i) s)) | false ↦ 0 ]) e
-
-  pub stops : i < length s → is_key mode (get_or s i 0) ≡ false → i ≡ counted
-  stops h e = omega (arith, turn false h e)
-
-  pub goes : i < length s → is_key mode (get_or s i 0) ≡ true → (i + 1) + allowed_before mode (drop (i + 1) s) ≡ counted
-  goes h e = rw (add-one i) (omega (arith, turn true h e))
-
-  pub ends : length s ≤ i → i ≡ counted
-  ends h = rw (drop_of_length-le s h) (omega arith)
 
 -- a part of allowed keys is allowed, and so is each; and where so many are allowed as there are, all are
 all_take : (f : ℕ → Bool) (n : ℕ) (s : List ℕ) → T (all f s) → T (all f (take n s))
@@ -60,6 +47,44 @@ all_allowed mode (k ∷ s) = go (is_key mode k) (all_allowed mode s)
         (elim b [ true ↦ suc (allowed_before mode s) | false ↦ 0 ] ≤ suc (length s))
     go true (p, q, r) = (λ e. p (omega arith), λ h. q (omega arith), omega arith)
     go false (p, q, r) = (λ e. absurd (omega arith), λ h. refl, omega arith)
+
+-- the first that is not allowed stands behind so many as are allowed in front
+before_wrong : (mode : ℕ) (s : List ℕ) → position_or_len (λ k. not (is_key mode k)) s ≡ allowed_before mode s
+before_wrong mode [] = refl
+before_wrong mode (k ∷ s) = go (is_key mode k) (before_wrong mode s)
+  where
+    go : (b : Bool) → {m n : ℕ} → m ≡ n → cond (not (not b)) (1 + m) 0 ≡ elim b [ true ↦ suc n | false ↦ 0 ]
+    go true e = omega arith
+    go false e = refl
+
+module _ (mode : ℕ) (s : List ℕ) where
+  abbrev place_or_long : ℕ
+  place_or_long = position_or_len (λ k. not (is_key mode k)) s
+
+  abbrev pub first_wrong : Option ℕ
+  first_wrong = position (λ k. not (is_key mode k)) s
+
+  pub wrong_at : (place : ℕ) → first_wrong ≡ Some place → (place ≡ allowed_before mode s) × (all (is_key mode) s ≡ false)
+  wrong_at place e = by (nat_lt place_or_long (length s)) refl e
+    where
+      by : (b : Bool) → nat_lt place_or_long (length s) ≡ b → cond b (Some place_or_long) None ≡ Some place → (place ≡ allowed_before mode s) × (all (is_key mode) s ≡ false)
+      by true l f =
+          let h = ltb-true place_or_long (length s) l in
+          let n = before_wrong mode s in
+          let here : place_or_long ≡ place = cc in
+          (omega arith, (all_allowed mode s).1 (omega arith))
+      by false l f = cc
+
+  pub none_wrong : first_wrong ≡ None → T (all (is_key mode) s)
+  none_wrong e = by (nat_lt place_or_long (length s)) refl e
+    where
+      by : (b : Bool) → nat_lt place_or_long (length s) ≡ b → cond b (Some place_or_long) None ≡ None → T (all (is_key mode) s)
+      by true l f = let z : ◌≡◌ {A = ℕ} 0 1 = cc in absurd (omega arith)
+      by false l f =
+          let h = ltb-false place_or_long (length s) l in
+          let n = before_wrong mode s in
+          let all = all_allowed mode s in
+          all.0 (omega (arith, all.2))
 
 module _ (m : ℕ) (s : List ℕ) (mode : T (is_mode m)) (few : length s ≤ most_keys) (allowed : T (all (is_key m) s)) where
   abbrev so_far : ℕ → Word
@@ -88,9 +113,9 @@ module _ (m : ℕ) (s : List ℕ) (mode : T (is_mode m)) (few : length s ≤ mos
   one_more_in i h p q =
       q ∙ ap (λ (bs : List ℕ). (step_at bs (get_or s i 0)).bytes) p ∙ leaves (so_far i) (whole_so_far i (omega arith)) (get_or s i 0) ∙ ap as_bytes (one_more i h)
 
-  pub all_typed : (i : ℕ) → length s ≤ i → i ≤ length s → {bs : List ℕ} {r : RecordRead} → bs ≡ as_bytes (so_far i) → r ≡ as_record bs → r.word ≡ holding (new_word m) (typed m s)
-  all_typed i h k p e =
-      ap (λ (x : RecordRead). x.word) (e ∙ ap as_record p ∙ written_read (so_far i) (whole_so_far i k)) ∙ ap (λ (ks : List ℕ). holding (new_word m) (typed m ks)) (take_all i s h)
+  pub all_typed : (i : ℕ) → length s ≤ i → i ≤ length s → {bs : List ℕ} {r : Option Word} (w : Word) → bs ≡ as_bytes (so_far i) → r ≡ as_record bs → unwrap_or r w ≡ holding (new_word m) (typed m s)
+  all_typed i h k w p e =
+      ap (λ (x : Option Word). unwrap_or x w) (e ∙ ap as_record p ∙ written_read (so_far i) (whole_so_far i k)) ∙ ap (λ (ks : List ℕ). holding (new_word m) (typed m ks)) (take_all i s h)
 
 -- a word is started in its mode, and holds no key yet
 pub started : (m : ℕ) → T (is_mode m) → (start m).word ≡ holding (new_word m) (typed m [])

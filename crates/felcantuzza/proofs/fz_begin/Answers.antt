@@ -1,22 +1,10 @@
--- `felcantuzza::fz_begin` meets its contract: the mode and the first place, or refused.
-use Rattle.felcantuzza.specs.Calls as Calls
+-- `felcantuzza::fz_begin` meets its contract: it returns what `begun` says.
 use Rattle.felcantuzza.specs.Recordings as Recordings
-use Rattle.felcantuzza.proofs.CallAnswers.{tells, refuses}
-use Rattle.felcantuzza.proofs.Recorded.{begun, begun_at}
+use Rattle.felcantuzza.specs.Calls.{only_one}
+use Rattle.felcantuzza.proofs.CallAnswers.{hands}
 use Rattle.felcantuzza.proofs.fz_begin.Goals as goal
 
-pub returns-in-Begins : goal.returns-in-Begins
-returns-in-Begins c =
-    let args = c.args in
-    let s = args.recording.now in
-    let e = begun s c.begin.ensures c.in-Begins.is in
-    let t = tells Calls.only_one (Recordings.begin s) _ e c.answered.ensures.0 c.answered.ensures.1 in
-    (t.0, t.1, begun_at s c.begin.ensures c.in-Begins.is args.at.now)
-
-pub returns-in-Refused : goal.returns-in-Refused
-returns-in-Refused c =
-    let args = c.args in
-    let s = args.recording.now in
-    let e = begun s c.begin.ensures c.in-Refused.is in
-    let t = refuses Calls.only_one (Recordings.begin s) _ _ e c.refused.ensures.0 c.refused.ensures.1 in
-    (t.0, t.1, begun_at s c.begin.ensures c.in-Refused.is args.at.now)
+pub returns : goal.returns
+returns c =
+    let t = hands only_one (Recordings.begin c.args.recording.now) c.begun.ensures.0 c.returned.ensures.0 c.returned.ensures.1 in
+    (t.0, t.1, c.begun.ensures.1)

@@ -1,22 +1,8 @@
--- `felcantuzza::fz_commit` meets its contract: the ruling, as numbers.
+-- `felcantuzza::fz_commit` meets its contract: it returns what `ruling` says.
 use Rattle.felcantuzza.specs.Calls as Calls
-use Rattle.felcantuzza.proofs.CallAnswers.{tells, refuses, committed}
+use Rattle.felcantuzza.specs.Calls.{only_one, in_one, placed}
+use Rattle.felcantuzza.proofs.CallAnswers.{hands}
 use Rattle.felcantuzza.proofs.fz_commit.Goals as goal
 
-pub returns-in-Keep : goal.returns-in-Keep
-returns-in-Keep c =
-    let args = c.args in
-    let e = committed args.mode args.keys.now args.text.now c.rule.result _ c.rule.ensures c.in-Keep.is in
-    tells Calls.only_one (Calls.commit args.mode args.keys.now args.text.now) _ e c.answered.ensures.0 c.answered.ensures.1
-
-pub returns-in-Restore : goal.returns-in-Restore
-returns-in-Restore c =
-    let args = c.args in
-    let e = committed args.mode args.keys.now args.text.now c.rule.result _ c.rule.ensures c.in-Restore.is in
-    tells Calls.only_one (Calls.commit args.mode args.keys.now args.text.now) _ e c.answered-in-Restore.ensures.0 c.answered-in-Restore.ensures.1
-
-pub returns-in-Refused : goal.returns-in-Refused
-returns-in-Refused c =
-    let args = c.args in
-    let e = committed args.mode args.keys.now args.text.now c.rule.result _ c.rule.ensures c.in-Refused.is in
-    refuses Calls.only_one (Calls.commit args.mode args.keys.now args.text.now) _ _ e c.refused.ensures.0 c.refused.ensures.1
+pub returns : goal.returns
+returns c = hands only_one (Calls.commit c.args.mode c.args.keys.now c.args.text.now) c.ruling.ensures c.returned.ensures.0 c.returned.ensures.1

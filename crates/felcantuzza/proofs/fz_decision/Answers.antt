@@ -1,25 +1,8 @@
--- `felcantuzza::fz_decision` meets its contract: no record, answered or refused.
-use mathlib.Core.Path.{◌∙◌}
-use borrow.Author.Tests.{not-true, not-false}
+-- `felcantuzza::fz_decision` meets its contract: it returns what `decision` says.
 use Rattle.felcantuzza.specs.Calls as Calls
-use Rattle.felcantuzza.specs.Calls.{only_one}
-use Rattle.felcantuzza.proofs.CallAnswers.{tells, refuses, none_decided, decided}
+use Rattle.felcantuzza.specs.Calls.{only_one, in_one, placed}
+use Rattle.felcantuzza.proofs.CallAnswers.{hands}
 use Rattle.felcantuzza.proofs.fz_decision.Goals as goal
 
-pub returns-then-not-reading : goal.returns-then-not-reading
-returns-then-not-reading c =
-    let lent = c.args.lent.now in
-    let e = none_decided lent c.read-reading.result c.read-reading.ensures (not-true _ c.if-not-reading.true) in
-    refuses only_one (Calls.decision lent) 8 0 e c.no_record.ensures.0 c.no_record.ensures.1
-
-pub returns-in-Decided : goal.returns-in-Decided
-returns-in-Decided c =
-    let lent = c.args.lent.now in
-    let e = decided lent c.read-reading.result c.read-reading.ensures (not-false _ c.if-not-reading.false) c.decision.result _ c.decision.ensures c.in-Decided.is in
-    tells only_one (Calls.decision lent) _ e c.answered.ensures.0 (c.answered.ensures.1 ∙ c.decision_number.ensures)
-
-pub returns-in-Refused : goal.returns-in-Refused
-returns-in-Refused c =
-    let lent = c.args.lent.now in
-    let e = decided lent c.read-reading.result c.read-reading.ensures (not-false _ c.if-not-reading.false) c.decision.result _ c.decision.ensures c.in-Refused.is in
-    refuses only_one (Calls.decision lent) _ _ e c.refused.ensures.0 c.refused.ensures.1
+pub returns : goal.returns
+returns c = hands only_one (Calls.decision c.args.lent.now) c.decision.ensures c.returned.ensures.0 c.returned.ensures.1

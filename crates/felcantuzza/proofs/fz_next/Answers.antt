@@ -1,37 +1,16 @@
--- `felcantuzza::fz_next` meets its contract: a press, the end or refused; where it then stands.
-use mathlib.Core.Path.{◌∙◌}
-use Rattle.felcantuzza.specs.Calls as Calls
+-- `felcantuzza::fz_next` meets its contract: it returns what `press_number` says.
 use Rattle.felcantuzza.specs.Recordings as Recordings
-use Rattle.felcantuzza.proofs.CallAnswers.{tells, refuses}
+use Rattle.felcantuzza.specs.Calls.{only_one, number_by}
+use Rattle.felcantuzza.proofs.CallAnswers.{hands}
 use Rattle.felcantuzza.proofs.Recorded.{stepped, moved}
+use mathlib.Core.Path.{sym, ap, ◌∙◌}
 use Rattle.felcantuzza.proofs.fz_next.Goals as goal
 
-pub returns-in-Pressed : goal.returns-in-Pressed
-returns-in-Pressed c =
+pub returns : goal.returns
+returns c =
     let args = c.args in
     let s = args.recording.now in
-    let said = Recordings.next s args.mode args.at.now args.in_word.now args.milliseconds.now in
-    let e = stepped s args.mode args.at.now args.in_word.now args.milliseconds.now c.step_at-step.ensures c.in-Pressed.is in
-    let t = tells Calls.only_one said _ e c.answered.ensures.0 (c.answered.ensures.1 ∙ c.press_number.ensures) in
-    let m = moved s args.mode args.at.now args.in_word.now args.milliseconds.now c.step_at-step.ensures in
-    (t.0, t.1, m.0, m.1, m.2)
-
-pub returns-in-End : goal.returns-in-End
-returns-in-End c =
-    let args = c.args in
-    let s = args.recording.now in
-    let said = Recordings.next s args.mode args.at.now args.in_word.now args.milliseconds.now in
-    let e = stepped s args.mode args.at.now args.in_word.now args.milliseconds.now c.step_at-step.ensures c.in-End.is in
-    let t = tells Calls.only_one said _ e c.answered-in-End.ensures.0 c.answered-in-End.ensures.1 in
-    let m = moved s args.mode args.at.now args.in_word.now args.milliseconds.now c.step_at-step.ensures in
-    (t.0, t.1, m.0, m.1, m.2)
-
-pub returns-in-Refused : goal.returns-in-Refused
-returns-in-Refused c =
-    let args = c.args in
-    let s = args.recording.now in
-    let said = Recordings.next s args.mode args.at.now args.in_word.now args.milliseconds.now in
-    let e = stepped s args.mode args.at.now args.in_word.now args.milliseconds.now c.step_at-step.ensures c.in-Refused.is in
-    let t = refuses Calls.only_one said _ _ e c.refused.ensures.0 c.refused.ensures.1 in
+    let e = stepped s args.mode args.at.now args.in_word.now args.milliseconds.now c.step_at-step.ensures in
+    let t = hands only_one (Recordings.next s args.mode args.at.now args.in_word.now args.milliseconds.now) (c.press_number.ensures ∙ sym (ap (number_by only_one) e)) c.returned.ensures.0 c.returned.ensures.1 in
     let m = moved s args.mode args.at.now args.in_word.now args.milliseconds.now c.step_at-step.ensures in
     (t.0, t.1, m.0, m.1, m.2)

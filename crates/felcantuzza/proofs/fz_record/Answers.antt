@@ -1,23 +1,13 @@
--- `felcantuzza::fz_record` meets its contract: the writer's answer, as numbers.
+-- `felcantuzza::fz_record` meets its contract: it returns what `recording::write` says.
 use mathlib.Core.Path.{◌∙◌}
-use Rattle.felcantuzza.specs.Calls as Calls
 use Rattle.felcantuzza.specs.Recordings as Recordings
-use Rattle.felcantuzza.proofs.CallAnswers.{tells, refuses, changed, unchanged}
-use Rattle.felcantuzza.proofs.Recorded.{written, refused_record}
+use Rattle.felcantuzza.specs.Calls.{only_one}
+use Rattle.felcantuzza.proofs.CallAnswers.{hands}
+use Rattle.felcantuzza.proofs.Recorded.{written, output_left}
 use Rattle.felcantuzza.proofs.fz_record.Goals as goal
 
-pub returns-in-Wrote : goal.returns-in-Wrote
-returns-in-Wrote c =
+pub returns : goal.returns
+returns c =
     let args = c.args in
-    let said = Recordings.record_drill args.mode args.presses.now args.out.now in
-    let e = written args.mode args.presses.now args.out.now c.write.ensures.0 c.in-Wrote.is in
-    let t = tells Calls.only_one said _ e c.answered.ensures.0 c.answered.ensures.1 in
-    (t.0, t.1, c.write.ensures.1 ∙ changed said _ args.out.now _ e)
-
-pub returns-in-Refused : goal.returns-in-Refused
-returns-in-Refused c =
-    let args = c.args in
-    let said = Recordings.record_drill args.mode args.presses.now args.out.now in
-    let e = written args.mode args.presses.now args.out.now c.write.ensures.0 c.in-Refused.is in
-    let t = refuses Calls.only_one said _ _ e c.refused.ensures.0 c.refused.ensures.1 in
-    (t.0, t.1, c.write.ensures.1 ∙ refused_record args.mode args.presses.now args.out.now c.write.ensures.0 _ c.in-Refused.is ∙ unchanged said _ args.out.now _ _ e)
+    let t = hands only_one (Recordings.record_drill args.mode args.presses.now args.out.now) (written args.mode args.presses.now args.out.now c.write.ensures.0) c.returned.ensures.0 c.returned.ensures.1 in
+    (t.0, t.1, c.write.ensures.1 ∙ output_left args.mode args.presses.now args.out.now)

@@ -1,18 +1,11 @@
--- `felcantuzza::fz_spell` meets its contract: the speller's answer, as numbers.
+-- `felcantuzza::fz_spell` meets its contract: it returns what `speller::spell` says.
 use Rattle.felcantuzza.specs.Calls as Calls
-use Rattle.felcantuzza.proofs.CallAnswers.{tells, refuses, spelled}
+use Rattle.felcantuzza.specs.Calls.{only_one, in_one, placed}
+use Rattle.felcantuzza.proofs.CallAnswers.{hands, spelled}
 use Rattle.felcantuzza.proofs.fz_spell.Goals as goal
 
-pub returns-in-Wrote : goal.returns-in-Wrote
-returns-in-Wrote c =
+pub returns : goal.returns
+returns c =
     let args = c.args in
-    let e = spelled args.mode args.text.now args.out.now c.spell.result _ c.spell.ensures.0 c.in-Wrote.is in
-    let t = tells Calls.only_one (Calls.spell args.mode args.text.now args.out.now) _ e c.answered.ensures.0 c.answered.ensures.1 in
-    (t.0, t.1, c.spell.ensures.1)
-
-pub returns-in-Refused : goal.returns-in-Refused
-returns-in-Refused c =
-    let args = c.args in
-    let e = spelled args.mode args.text.now args.out.now c.spell.result _ c.spell.ensures.0 c.in-Refused.is in
-    let t = refuses Calls.only_one (Calls.spell args.mode args.text.now args.out.now) _ _ e c.refused.ensures.0 c.refused.ensures.1 in
+    let t = hands only_one (Calls.spell args.mode args.text.now args.out.now) (spelled args.mode args.text.now args.out.now c.spell.ensures.0) c.returned.ensures.0 c.returned.ensures.1 in
     (t.0, t.1, c.spell.ensures.1)

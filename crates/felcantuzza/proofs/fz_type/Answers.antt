@@ -1,19 +1,10 @@
--- `felcantuzza::fz_type` meets its contract: typed where the bytes lie, or refused.
-use mathlib.Core.Path.{◌∙◌}
+-- `felcantuzza::fz_type` meets its contract: it returns what `typed` says.
 use Rattle.felcantuzza.specs.Calls as Calls
-use Rattle.felcantuzza.proofs.CallAnswers.{tells, refuses, typed, typed_bytes}
+use Rattle.felcantuzza.specs.Calls.{only_one, in_one, placed}
+use Rattle.felcantuzza.proofs.CallAnswers.{hands}
 use Rattle.felcantuzza.proofs.fz_type.Goals as goal
 
-pub returns-in-Did : goal.returns-in-Did
-returns-in-Did c =
-    let args = c.args in
-    let e = typed args.lent.now args.key c.step_at-answer.ensures.0 c.in-Did.is in
-    let t = tells Calls.in_one (Calls.type args.lent.now args.key) _ e c.answered.ensures.0 (c.answered.ensures.1 ∙ c.outcome_number.ensures) in
-    (t.0, t.1, c.step_at-answer.ensures.1 ∙ typed_bytes args.lent.now args.key)
-
-pub returns-in-Refused : goal.returns-in-Refused
-returns-in-Refused c =
-    let args = c.args in
-    let e = typed args.lent.now args.key c.step_at-answer.ensures.0 c.in-Refused.is in
-    let t = refuses Calls.in_one (Calls.type args.lent.now args.key) _ _ e c.refused.ensures.0 c.refused.ensures.1 in
-    (t.0, t.1, c.step_at-answer.ensures.1 ∙ typed_bytes args.lent.now args.key)
+pub returns : goal.returns
+returns c =
+    let t = hands in_one (Calls.type c.args.lent.now c.args.key) c.typed.ensures.0 c.returned.ensures.0 c.returned.ensures.1 in
+    (t.0, t.1, c.typed.ensures.1)

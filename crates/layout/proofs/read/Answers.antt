@@ -1,13 +1,12 @@
 -- `layout::read` meets its contract: no record, or each part from its place.
-use mathlib.Core.Path.{◌∙◌}
 use Rattle.layout.proofs.Answers.{another_length, another_mark, all_read}
 use Rattle.layout.proofs.read.Goals as goal
 
 pub returns-then-buffer-ne-LENGTH : goal.returns-then-buffer-ne-LENGTH
-returns-then-buffer-ne-LENGTH c = c.no_record.ensures ∙ another_length c.args.buffer.now c.if-buffer-ne-LENGTH.true
+returns-then-buffer-ne-LENGTH c = another_length c.args.buffer.now c.if-buffer-ne-LENGTH.true
 
 pub returns-then-mark-gt1 : goal.returns-then-mark-gt1
-returns-then-mark-gt1 c = c.no_record-then-mark-gt1.ensures ∙ another_mark c.args.buffer.now c.if-buffer-ne-LENGTH.false c.if-mark-gt1.true
+returns-then-mark-gt1 c = another_mark c.args.buffer.now c.if-buffer-ne-LENGTH.false c.if-mark-gt1.true
 
 pub returns : goal.returns
 returns c =

@@ -14,33 +14,27 @@ returns-then-letter c = not_a_letter c.args.letter c.args.tone (sym (too_large v
 pub returns-then-tone-gt-DOT : goal.returns-then-tone-gt-DOT
 returns-then-tone-gt-DOT c = no_such_tone c.args.letter c.args.tone (omega arith)
 
-pub row-row-requires : goal.row-row-requires
-row-row-requires c = omega arith
-
-pub point-requires : goal.point-requires
-point-requires c = omega arith
-
 pub in_case-requires : goal.in_case-requires
 in_case-requires c = c.point.ensures.1
 
 -- with a row
-pub returns-then-row-lt-ROWS : goal.returns-then-row-lt-ROWS
-returns-then-row-lt-ROWS c =
+pub returns-in-Some : goal.returns-in-Some
+returns-in-Some c =
     c.in_case.ensures ∙ ap (in_case (letter c.args.letter).capital) c.point.ensures.0
-    ∙ with_row c.args.letter c.args.tone c.row-row.result (omega arith) (omega arith) c.row-row.ensures (omega arith)
+    ∙ with_row c.args.letter c.args.tone c.in-Some.row (omega arith) (omega arith) c.in-Some.ensures.1 c.in-Some.ensures.0
 
 pub returns-then-not-is_letter : goal.returns-then-not-is_letter
 returns-then-not-is_letter c = not_a_letter c.args.letter c.args.tone (sym c.is_letter.ensures ∙ c.if-not-is_letter.true)
 
 -- with no row: a tone, đ, and any other letter
 pub returns-then-tone-ne-NO_TONE : goal.returns-then-tone-ne-NO_TONE
-returns-then-tone-ne-NO_TONE c = no_row_toned c.args.letter c.row-row.result (sym c.is_letter.ensures ∙ c.if-not-is_letter.false) c.row-row.ensures (omega arith) c.args.tone (omega arith)
+returns-then-tone-ne-NO_TONE c = no_row_toned c.args.letter 12 (sym c.is_letter.ensures ∙ c.if-not-is_letter.false) c.in_default.ensures (omega arith) c.args.tone (omega arith)
 
 pub in_case-requires-then-small-eq-D_STROKE : goal.in_case-requires-then-small-eq-D_STROKE
 in_case-requires-then-small-eq-D_STROKE c = omega arith
 
 pub returns-then-small-eq-D_STROKE : goal.returns-then-small-eq-D_STROKE
-returns-then-small-eq-D_STROKE c = c.in_case-then-small-eq-D_STROKE.ensures ∙ no_row_stroke c.args.letter c.row-row.result (sym c.is_letter.ensures ∙ c.if-not-is_letter.false) c.row-row.ensures (omega arith) c.args.tone (omega arith) c.if-small-eq-D_STROKE.true
+returns-then-small-eq-D_STROKE c = c.in_case-then-small-eq-D_STROKE.ensures ∙ no_row_stroke c.args.letter 12 (sym c.is_letter.ensures ∙ c.if-not-is_letter.false) c.in_default.ensures (omega arith) c.args.tone (omega arith) c.if-small-eq-D_STROKE.true
 
 pub in_case-requires-2 : goal.in_case-requires-2
 in_case-requires-2 c = subst (λ (b : ℕ). 32 ≤ b) (sym c.base.ensures) (letter_rowed c.args.letter (sym c.is_letter.ensures ∙ c.if-not-is_letter.false)).above
@@ -48,4 +42,4 @@ in_case-requires-2 c = subst (λ (b : ℕ). 32 ≤ b) (sym c.base.ensures) (lett
 pub returns : goal.returns
 returns c =
     c.in_case-2.ensures ∙ ap (in_case (letter c.args.letter).capital) c.base.ensures
-    ∙ no_row_plain c.args.letter c.row-row.result (sym c.is_letter.ensures ∙ c.if-not-is_letter.false) c.row-row.ensures (omega arith) c.args.tone (omega arith) c.if-small-eq-D_STROKE.false
+    ∙ no_row_plain c.args.letter 12 (sym c.is_letter.ensures ∙ c.if-not-is_letter.false) c.in_default.ensures (omega arith) c.args.tone (omega arith) c.if-small-eq-D_STROKE.false

@@ -1,44 +1,44 @@
 -- `letters::read` meets its contract: each way out, by the bytes that are left at the place.
 use mathlib.Core.Path.{◌∙◌}
 use native.Mathlib.Omega.{arith}
-use Rattle.letters.proofs.Agrees.{read_end, read_one, cut_at_one, read_two, cut_at_two, read_three}
+use Rattle.letters.proofs.Agrees.{at_front, read_end, read_one, cut_at_one, read_two, cut_at_two, read_three}
 use Rattle.letters.proofs.read.Goals as goal
 
-pub returns-then-text-at : goal.returns-then-text-at
-returns-then-text-at c = read_end c.args.text.now c.args.at (omega arith)
+pub returns-in_err-get : goal.returns-in_err-get
+returns-in_err-get c = c.from_residual.ensures ∙ read_end c.args.text.now c.args.at (grind (arith, c.in_err-get.ensures.lookup))
 
-pub overflow_sub-left : goal.overflow_sub-left
-overflow_sub-left c = omega arith
+pub returns-in-len1-up : goal.returns-in-len1-up
+returns-in-len1-up c =
+    let left = c.in_ok-get.ensures.lookup.0 in
+    let bs = c.in_ok-get.field-0.now in
+    c.one_byte.ensures ∙ read_one bs 0 (omega arith) (omega arith) ∙ at_front c.args.text.now c.args.at bs left.2
 
-pub bounds-text-at : goal.bounds-text-at
-bounds-text-at c = omega arith
+pub returns-in-len2-up : goal.returns-in-len2-up
+returns-in-len2-up c =
+    let left = c.in_ok-get.ensures.lookup.0 in
+    let bs = c.in_ok-get.field-0.now in
+    c.two_bytes.ensures ∙ read_two bs 0 (omega arith) (omega arith) (omega arith) (omega arith) ∙ at_front c.args.text.now c.args.at bs left.2
 
-pub returns-then-first-lt128 : goal.returns-then-first-lt128
-returns-then-first-lt128 c = c.one_byte.ensures ∙ read_one c.args.text.now c.args.at (omega arith) (omega arith)
+pub returns-in-len3-up : goal.returns-in-len3-up
+returns-in-len3-up c =
+    let left = c.in_ok-get.ensures.lookup.0 in
+    let bs = c.in_ok-get.field-0.now in
+    c.three_bytes.ensures ∙ read_three bs 0 (omega arith) (omega arith) (omega arith) (omega arith) (omega arith) ∙ at_front c.args.text.now c.args.at bs left.2
 
-pub returns-then-left-lt2 : goal.returns-then-left-lt2
-returns-then-left-lt2 c = cut_at_one c.args.text.now c.args.at (omega arith) (omega arith) (omega arith)
+pub returns-in_default : goal.returns-in_default
+returns-in_default c =
+    let left = c.in_ok-get.ensures.lookup.0 in
+    let bs = c.in_ok-get.field-0.now in
+    read_end bs 0 (omega arith) ∙ at_front c.args.text.now c.args.at bs left.2
 
-pub overflow_add-second : goal.overflow_add-second
-overflow_add-second c = omega arith
+pub returns-in_default-2 : goal.returns-in_default-2
+returns-in_default-2 c =
+    let left = c.in_ok-get.ensures.lookup.0 in
+    let bs = c.in_ok-get.field-0.now in
+    cut_at_one bs 0 (omega arith) (omega arith) (omega arith) ∙ at_front c.args.text.now c.args.at bs left.2
 
-pub bounds-text-at-2 : goal.bounds-text-at-2
-bounds-text-at-2 c = omega arith
-
-pub returns-then-first-lt224 : goal.returns-then-first-lt224
-returns-then-first-lt224 c = c.two_bytes.ensures ∙ read_two c.args.text.now c.args.at (omega arith) (omega arith) (omega arith) (omega arith)
-
-pub returns-then-left-lt3 : goal.returns-then-left-lt3
-returns-then-left-lt3 c = cut_at_two c.args.text.now c.args.at (omega arith) (omega arith) (omega arith) (omega arith) (omega arith)
-
-pub overflow_add-at : goal.overflow_add-at
-overflow_add-at c = omega arith
-
-pub bounds-text-at-3 : goal.bounds-text-at-3
-bounds-text-at-3 c = omega arith
-
-pub three_bytes-requires : goal.three_bytes-requires
-three_bytes-requires c = omega arith
-
-pub returns : goal.returns
-returns c = c.three_bytes.ensures ∙ read_three c.args.text.now c.args.at (omega arith) (omega arith) (omega arith) (omega arith) (omega arith)
+pub returns-in_default-3 : goal.returns-in_default-3
+returns-in_default-3 c =
+    let left = c.in_ok-get.ensures.lookup.0 in
+    let bs = c.in_ok-get.field-0.now in
+    cut_at_two bs 0 (omega arith) (omega arith) (omega arith) (omega arith) (omega arith) ∙ at_front c.args.text.now c.args.at bs left.2

@@ -9,11 +9,11 @@ use Rattle.lines.proofs.Columns.{as_part}
 use Rattle.lines.proofs.Words.{refused_keys, small_value, typed_keys}
 use Rattle.lines.proofs.keys_line.Goals as goal
 
-pub refused_line-requires : goal.refused_line-requires
-refused_line-requires c = (c.requires, small_value c.args.mode c.args.keys.now _ (sym (ap (λ (t : TypeAll). t.answer) c.type_all-all.ensures) ∙ c.in-Refused.is))
+pub refused-requires : goal.refused-requires
+refused-requires c = (c.requires, small_value c.args.mode c.args.keys.now _ (sym (ap (λ (t : TypeAll). t.answer) c.type_all-all.ensures) ∙ c.in-Err.is))
 
-pub returns-in-Refused : goal.returns-in-Refused
-returns-in-Refused c = as_part (refused_keys c.args.mode c.args.keys.now (word_line_of c.args.keyed) _ (sym (ap (λ (t : TypeAll). t.answer) c.type_all-all.ensures) ∙ c.in-Refused.is)) c.refused_line.ensures
+pub returns-in-Err : goal.returns-in-Err
+returns-in-Err c = as_part (refused_keys c.args.mode c.args.keys.now (word_line_of c.args.keyed) _ (sym (ap (λ (t : TypeAll). t.answer) c.type_all-all.ensures) ∙ c.in-Err.is)) c.refused.ensures
 
 pub word_line-requires : goal.word_line-requires
 word_line-requires c =

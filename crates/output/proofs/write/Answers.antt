@@ -11,7 +11,7 @@ use Rattle.output.proofs.write.Goals as goal
 pub returns-then-out-needed : goal.returns-then-out-needed
 returns-then-out-needed c =
     let e = no_room c.args.text.now c.args.out.now c.if-out-needed.true in
-    (sym (ap (λ (x : Written). x.answer) e), sym (ap (λ (x : Written). x.output) e))
+    (c.refuse.ensures ∙ sym (ap (λ (x : Written). x.answer) e), sym (ap (λ (x : Written). x.output) e))
 
 pub returns : goal.returns
 returns c =

@@ -7,5 +7,5 @@ use Rattle.recording.proofs.count.Goals as goal
 
 pub returns : goal.returns
 returns c =
-    let e = ap (λ (g : Groups). g.count) c.written-groups.ensures in
+    let e = ap (λ (g : Groups). g.count) c.written.ensures in
     (e, omega (arith, e, written_few c.args.n))

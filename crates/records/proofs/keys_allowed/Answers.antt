@@ -1,27 +1,13 @@
--- `records::keys_allowed` meets its contract. The loop's invariant: from here on the answer is that of the whole.
-use mathlib.Core.Path.{refl, sym, ◌∙◌}
-use native.Mathlib.Omega.{arith}
+-- `records::keys_allowed` meets its contract: the chain's question is the table's.
+use mathlib.Core.Path.{◌∙◌}
+use Rattle.std.proofs.Common.{rules, tests}
+use Rattle.std.proofs.lemmas.Iterator.{YieldsList-from_slice}
+use Rattle.std.proofs.lemmas.Iterator.Search.{all_from_yields_List}
 use Rattle.rules.specs.KeyRoles.{is_key}
-use Rattle.records.proofs.Conditions.{all_stop, all_on, all_end}
+use Rattle.records.proofs.Conditions.{all_is}
 use Rattle.records.proofs.keys_allowed.Goals as goal
-
-pub loop-i-init : goal.loop-i-init
-loop-i-init c = refl
-
-pub returns-then-not-is_key : goal.returns-then-not-is_key
-returns-then-not-is_key c =
-    let args = c.args in
-    sym (all_stop (is_key args.mode) args.keys.now c.loop-i.i c.loop-i-test.true (sym c.is_key.ensures ∙ c.if-not-is_key.true)) ∙ c.loop-i.invariant
-
-pub loop-i-smaller : goal.loop-i-smaller
-loop-i-smaller c = omega arith
-
-pub loop-i-preserved : goal.loop-i-preserved
-loop-i-preserved c =
-    let args = c.args in
-    sym (all_on (is_key args.mode) args.keys.now c.loop-i.i c.loop-i-test.true (sym c.is_key.ensures ∙ c.if-not-is_key.false)) ∙ c.loop-i.invariant
 
 pub returns : goal.returns
 returns c =
-    let args = c.args in
-    sym (all_end (is_key args.mode) args.keys.now c.loop-i.i c.loop-i-test.false) ∙ c.loop-i.invariant
+    all_from_yields_List (is_key c.args.mode) _ _ c.all.result c.all.ensures.ran (YieldsList-from_slice c.args.keys.now cc) (λ x b q k. search (rules, tests)) ∙
+    all_is (is_key c.args.mode) c.args.keys.now

@@ -1,42 +1,33 @@
--- `records::lent_out_of_range` meets its contract: each answer is the condition that the test before it settles.
-use mathlib.Core.Path.{◌≡◌, sym}
+-- `records::lent_out_of_range` meets its contract: each answer is the condition that the question before it settles.
+use mathlib.Core.Path.{◌≡◌, refl, sym, ◌∙◌}
+use mathlib.Core.Bool.{true, false}
+use Prim.Native.Nat.{ℕ}
 use native.Mathlib.Omega.{arith}
-use lib.ListN.{length}
-use borrow.Author.Rules.{rules}
-use Rattle.rules.specs.TheWord.{most_keys}
-use Rattle.records.specs.Numbers.{word_in}
-use Rattle.records.proofs.Conditions.{by_numbers, few, by_keys, by_letters}
+use borrow.Author.Tests.{not-true, not-false}
+use Rattle.records.proofs.Conditions.{by_numbers, by_keys, by_letters}
 use Rattle.records.proofs.lent_out_of_range.Goals as goal
-
-pub returns-then-numbers_wrong-places_wrong : goal.returns-then-numbers_wrong-places_wrong
-returns-then-numbers_wrong-places_wrong c =
-    let a = c.args in
-    let w = word_in a.mode a.letters.now a.appended_by.now a.shaped_by.now a.keys.now a.toned_by a.n in
-    sym (by_numbers w c.numbers_wrong.ensures c.places_wrong.ensures c.if-numbers_wrong-places_wrong.true)
-
-pub slice_bounds-keys_allowed-end : goal.slice_bounds-keys_allowed-end
-slice_bounds-keys_allowed-end c =
-    let a = c.args in
-    let w = word_in a.mode a.letters.now a.appended_by.now a.shaped_by.now a.keys.now a.toned_by a.n in
-    let whole : length a.keys.now ≡ most_keys = search rules in
-    omega (arith, (few w c.numbers_wrong.ensures c.places_wrong.ensures c.if-numbers_wrong-places_wrong.false).0)
+use Rattle.records.proofs.lent_out_of_range.Goals.{then-numbers_wrong-places_wrong, else-numbers_wrong-places_wrong}
 
 pub returns-then-not-keys_allowed : goal.returns-then-not-keys_allowed
 returns-then-not-keys_allowed c =
-    let a = c.args in
-    let w = word_in a.mode a.letters.now a.appended_by.now a.shaped_by.now a.keys.now a.toned_by a.n in
-    sym (by_keys w c.numbers_wrong.ensures c.places_wrong.ensures c.if-numbers_wrong-places_wrong.false c.keys_allowed.ensures c.if-not-keys_allowed.true)
+    let w = c.args.w.now in
+    elim c.if-numbers_wrong-places_wrong.branch [
+      | then-numbers_wrong-places_wrong b ↦ c.if-not-keys_allowed.true ∙ sym (by_numbers w c.numbers_wrong.ensures c.places_wrong.ensures b.if-numbers_wrong-places_wrong.true)
+      | else-numbers_wrong-places_wrong b ↦
+          c.if-not-keys_allowed.true ∙
+          sym (by_keys w c.numbers_wrong.ensures c.places_wrong.ensures b.if-numbers_wrong-places_wrong.false b.keys_allowed.ensures (not-true _ (sym b.value-is ∙ c.if-not-keys_allowed.true)))
+    ]
 
-pub slice_bounds-letters_allowed-end : goal.slice_bounds-letters_allowed-end
-slice_bounds-letters_allowed-end c =
-    let a = c.args in
-    let w = word_in a.mode a.letters.now a.appended_by.now a.shaped_by.now a.keys.now a.toned_by a.n in
-    let whole : length a.letters.now ≡ most_keys = search rules in
-    omega (arith, (few w c.numbers_wrong.ensures c.places_wrong.ensures c.if-numbers_wrong-places_wrong.false).1)
-
-pub returns : goal.returns
-returns c =
-    let a = c.args in
-    let w = word_in a.mode a.letters.now a.appended_by.now a.shaped_by.now a.keys.now a.toned_by a.n in
-    sym
-    (by_letters w c.numbers_wrong.ensures c.places_wrong.ensures c.if-numbers_wrong-places_wrong.false c.keys_allowed.ensures c.if-not-keys_allowed.false c.letters_allowed.ensures)
+pub returns-else-not-keys_allowed : goal.returns-else-not-keys_allowed
+returns-else-not-keys_allowed c =
+    let w = c.args.w.now in
+    elim c.if-numbers_wrong-places_wrong.branch [
+      | then-numbers_wrong-places_wrong b ↦
+          let no : true ≡ false = sym b.if-numbers_wrong-places_wrong.true ∙ sym b.value-is ∙ c.if-not-keys_allowed.false in
+          let z : ◌≡◌ {A = ℕ} 0 1 = cc in
+          absurd (omega arith)
+      | else-numbers_wrong-places_wrong b ↦
+          sym
+          (by_letters w c.numbers_wrong.ensures c.places_wrong.ensures b.if-numbers_wrong-places_wrong.false b.keys_allowed.ensures (not-false _ (sym b.value-is ∙ c.if-not-keys_allowed.false))
+          refl c.letters_allowed.ensures)
+    ]

@@ -10,7 +10,6 @@ use Rattle.records.proofs.numbers_wrong.Goals as goal
 
 pub returns : goal.returns
 returns c =
-    let args = c.args in
-    let n = args.n in
-    ap (λ (b : Bool). ltb most_keys n.typed || (ltb n.typed n.count || (not (eqb (n.acted + n.undone + n.appended) n.typed) || (ltb dot n.tone || not b)))) c.is_mode.ensures ∙
-    counts_by_sum args.mode n
+    let w = c.args.w.now in
+    ap (λ (b : Bool). (((ltb most_keys w.typed || ltb w.typed w.count) || not (eqb (w.acted + w.undone + w.appended) w.typed)) || ltb dot w.tone) || not b) c.is_mode.ensures ∙
+    counts_by_sum w

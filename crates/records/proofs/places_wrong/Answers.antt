@@ -1,34 +1,36 @@
--- `records::places_wrong` meets its contract. The loop's invariant: what is asked about so far.
-use mathlib.Core.Path.{◌≡◌, refl, ap, ◌∙◌}
+-- `records::places_wrong` meets its contract. The loop's invariant: what is asked about and what is left are together all places.
+use mathlib.Core.Path.{◌≡◌, refl, sym, ap, ◌∙◌}
 use native.Mathlib.Omega.{arith}
 use lib.ListN.{length}
-use borrow.Author.Rules.{rules}
-use Rattle.rules.specs.TheWord.{most_keys}
-use Rattle.records.proofs.PlacesAsked.{wrong_before, one_more, asked_all}
+use Rattle.std.proofs.Common.{rules, None}
+use Rattle.std.proofs.lemmas.Iterator.{empty_from_Zip}
+use Rattle.records.proofs.PlacesAsked.{wrong_from, one_more, none_left, with_tone}
 use Rattle.records.proofs.places_wrong.Goals as goal
 
 pub loop-i-init : goal.loop-i-init
-loop-i-init c = (refl, refl, omega arith)
-
-pub overflow_add-nth : goal.overflow_add-nth
-overflow_add-nth c = omega (arith, c.loop-i.invariant.1, c.loop-i-test.true)
-
-pub loop-i-smaller : goal.loop-i-smaller
-loop-i-smaller c = omega arith
+loop-i-init c =
+    let w = c.args.w.now in
+    let from = c.into_iter-i-iterator.result in
+    let none : from.count ≡ 0 = search rules in
+    let by : from.iter.a.rest.now ≡ w.appended_by = search rules in
+    let shaped : from.iter.b.rest.now ≡ w.shaped_by = search rules in
+    let long : length from.iter.a.rest.now ≡ length from.iter.b.rest.now = search rules in
+    ((λ j. wrong_from w.typed w.count (none j) (by j) (shaped j)), long)
 
 pub loop-i-preserved : goal.loop-i-preserved
 loop-i-preserved c =
-    let args = c.args in (
-      one_more args.typed args.count args.appended_by.now args.shaped_by.now c.loop-i.i c.loop-i.nth c.loop-i.invariant.0 c.loop-i.invariant.1 c.keys_for.ensures,
-      omega (arith, c.loop-i.invariant.1),
-      omega (arith, c.loop-i-test.true),
-    )
+    let w = c.args.w.now in
+    let at = c.loop-i.i-iterator in
+    let b = c.in-Some.field-0-1-0.now in
+    let s = c.in-Some.field-0-1-1.now in
+    let steps = c.in-Some.ensures.steps in
+    let long : length c.next.new.self.iter.a.rest.now ≡ length c.next.new.self.iter.b.rest.now = omega (arith, ap length steps.0.0, ap length steps.0.1, c.loop-i.invariant.1) in
+    (one_more w.typed w.count at.count b s c.loop-i.wrong steps.1 steps.2 steps.0.0 steps.0.1 c.keys_for.ensures ∙ c.loop-i.invariant.0, long)
 
 pub returns : goal.returns
 returns c =
-    let args = c.args in
-    let end : c.loop-i.i ≡ most_keys = omega (arith, c.loop-i.invariant.2, c.loop-i-test.false) in
-    let by_long : length args.appended_by.now ≡ most_keys = search rules in
-    let shaped_long : length args.shaped_by.now ≡ most_keys = search rules in
-    asked_all args.typed args.count args.appended_by.now args.shaped_by.now args.toned_by by_long shaped_long
-    (c.loop-i.invariant.0 ∙ ap (wrong_before args.typed args.count args.appended_by.now args.shaped_by.now) end) c.keys_for-2.ensures
+    let w = c.args.w.now in
+    let at = c.loop-i.i-iterator in
+    let spent = empty_from_Zip at.iter c.next.new.self.iter None refl c.in-None.ensures.steps.0 c.loop-i.invariant.1 in
+    let long : length w.appended_by ≡ length w.shaped_by = search rules in
+    with_tone w.typed w.count w.appended_by w.shaped_by w.toned_by long (sym (none_left w.typed w.count at.count c.loop-i.wrong spent.0 spent.1) ∙ c.loop-i.invariant.0) c.keys_for-2.ensures

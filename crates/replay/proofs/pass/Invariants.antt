@@ -5,7 +5,7 @@ use Rattle.replay.proofs.Passing.{Going}
 use Rattle.replay.proofs.pass.Given as goal
 
 abbrev pub invariant-loop-x : goal.invariant-loop-x
-invariant-loop-x l = Going l.recording l.initial.out l.initial.at l.initial.progress l.out l.at l.progress l.keys l.total
+invariant-loop-x l = Going l.recording l.initial.out l.initial.at l.initial.progress l.out l.at l.progress l.keys l.found
 
 abbrev pub decreases-loop-x : goal.decreases-loop-x
 decreases-loop-x l = length l.recording - l.at

@@ -1,30 +1,21 @@
 -- `show::text` meets its contract: refused, or the text made and written.
-use mathlib.Core.Path.{◌≡◌, sym, ap, ◌∙◌}
+use mathlib.Core.Path.{sym, ap, ◌∙◌}
 use native.Mathlib.Omega.{arith}
-use lib.ListN.{length}
-use borrow.Author.Rules.{rules}
 use Rattle.rules.specs.WhatComesBack.{Written}
-use Rattle.show.proofs.Answers.{too_many, at_most_96, put_so, made_there}
+use Rattle.show.proofs.Answers.{too_many, put_so, made_there}
 use Rattle.show.proofs.text.Goals as goal
 
 pub returns-then-letters-gt-KEYS : goal.returns-then-letters-gt-KEYS
 returns-then-letters-gt-KEYS c =
     let args = c.args in
     let e = too_many args.letters.now args.tone args.out.now c.if-letters-gt-KEYS.true in
-    (sym (ap (λ (x : Written). x.answer) e), sym (ap (λ (x : Written). x.output) e))
+    (c.refuse.ensures ∙ sym (ap (λ (x : Written). x.answer) e), sym (ap (λ (x : Written). x.output) e))
 
 pub returns-then-out-ge-TEXT : goal.returns-then-out-ge-TEXT
 returns-then-out-ge-TEXT c =
     let args = c.args in
     let e = made_there args.letters.now args.tone args.out.now c.if-letters-gt-KEYS.false c.in_room.result c.if-out-ge-TEXT.true c.in_room.ensures.0 _ c.in_room.ensures.1 in
     (sym (ap (λ (x : Written). x.answer) e), sym (ap (λ (x : Written). x.output) e))
-
-pub slice_bounds-write-end : goal.slice_bounds-write-end
-slice_bounds-write-end c =
-    let args = c.args in
-    let most = at_most_96 args.letters.now args.tone _ c.if-letters-gt-KEYS.false c.in_room-needed.result (omega arith) c.in_room-needed.ensures.0 in
-    let long : length c.in_room-needed.new.out ≡ 96 = search rules in
-    omega (arith, most, long)
 
 pub returns : goal.returns
 returns c =

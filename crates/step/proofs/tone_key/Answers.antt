@@ -3,13 +3,12 @@ use mathlib.Core.Path.{sym, ap, subst, ◌∙◌}
 use mathlib.Core.Bool.{true, false}
 use Rattle.rules.specs.Letters.{no_tone}
 use Rattle.rules.specs.TheWord.{undone as undone_with}
-use Rattle.rules.specs.KeyRoles.{letter_of_key, undo, tone_goes, tone_does}
+use Rattle.rules.specs.KeyRoles.{letter_of_key, undo, tone_does}
 use Rattle.rules.specs.declared.Touched.TheVariants.{NoLetter}
 use Rattle.rules.specs.declared.ToneKey.{ToneKey}
 use Rattle.rules.specs.declared.Act.TheVariants.{Tone, Clear}
 use Rattle.step.specs.declared.Rest.{Rest}
 use Rattle.step.specs.LentLetters.{RoomForLetter, state_in}
-use Rattle.step.proofs.Arrays.{is_front}
 use Rattle.step.proofs.States.{tones, as_acted, as_ruled}
 use Rattle.step.proofs.SecondHorns.{plainly}
 use Rattle.step.proofs.Rulings.{clear_none, clear_acts, tone_undone, tone_not_there}
@@ -42,11 +41,11 @@ returns-then-takes_tone c =
     let t = c.in-SetTone.wanted in
     let s = state_in c.args.letters.now c.args.rest in
     let k = letter_of_key c.args.key in
-    as_ruled (ap (λ (r : ToneKey). tone_does r s k) c.in-SetTone.is ∙ tone_not_there s k t true c.if-tone-wanted.false (sym (c.takes_tone.ensures ∙ sym (ap (tone_goes t) (is_front c.args.letters.now c.args.rest.count))) ∙ c.if-takes_tone.true)) (as_acted (Tone t) NoLetter (tones c.args.letters.now c.args.rest c.requires.0.given t c.with_tone-then-takes_tone.ensures))
+    as_ruled (ap (λ (r : ToneKey). tone_does r s k) c.in-SetTone.is ∙ tone_not_there s k t true c.if-tone-wanted.false (sym c.takes_tone.ensures ∙ c.if-takes_tone.true)) (as_acted (Tone t) NoLetter (tones c.args.letters.now c.args.rest c.requires.0.given t c.with_tone-then-takes_tone.ensures))
 
 pub returns : goal.returns
 returns c =
     let t = c.in-SetTone.wanted in
     let s = state_in c.args.letters.now c.args.rest in
     let k = letter_of_key c.args.key in
-    as_ruled (ap (λ (r : ToneKey). tone_does r s k) c.in-SetTone.is ∙ tone_not_there s k t false c.if-tone-wanted.false (sym (c.takes_tone.ensures ∙ sym (ap (tone_goes t) (is_front c.args.letters.now c.args.rest.count))) ∙ c.if-takes_tone.false) ∙ plainly s k c.requires.1) c.appended-2.ensures
+    as_ruled (ap (λ (r : ToneKey). tone_does r s k) c.in-SetTone.is ∙ tone_not_there s k t false c.if-tone-wanted.false (sym c.takes_tone.ensures ∙ c.if-takes_tone.false) ∙ plainly s k c.requires.1) c.appended-2.ensures

@@ -1,6 +1,6 @@
 -- `syllable::ask` meets its contract: each test is document 01's check, and the first that holds is answered.
 use mathlib.Core.Path.{◌≡◌, refl, sym, ap, ◌∙◌}
-use mathlib.Core.Bool.{true, not}
+use mathlib.Core.Bool.{not}
 use mathlib.Core.List.{map}
 use native.Mathlib.Omega.{arith}
 use borrow.Author.Tests.{eq-eqb, ne_eqb}
@@ -10,7 +10,7 @@ use Rattle.parts.proofs.Splits.{cut}
 use Rattle.syllable.proofs.Asks.{answered}
 use Rattle.syllable.proofs.ChecksPassed.{begun, whole, fits_first, fitting, decided, as_listed, as_agreeing, is_listed}
 use Rattle.syllable.proofs.ask.Goals as goal
-use Rattle.syllable.proofs.ask.Goals.{then-not-listed+else-not-free+else-not-some_agrees, else-not-listed}
+use Rattle.syllable.proofs.ask.Goals.{then-listed, else-listed+then-free, else-listed+else-free}
 
 pub slice_bounds-packed-end : goal.slice_bounds-packed-end
 slice_bounds-packed-end c = omega (arith, cut c.args.s.now c.apart-parts.result c.apart-parts.ensures)
@@ -41,41 +41,42 @@ returns-then-not-known_final c =
     let a = fitting w (fits_first w c.first_base.ensures c.initial_fits.ensures) c.if-not-initial_fits.false c.packed-fin.ensures in
     answered _ _ _ b.one w.two w.three a.four (ap not (sym c.if-not-known_final.true ∙ c.known_final.ensures _ a.fin)) refl refl
 
-pub returns-then-not-free : goal.returns-then-not-free
-returns-then-not-free c =
-    let b = begun c.apart-parts.ensures c.if-i-n.false c.packed-ini.ensures in
-    let w = whole b c.known_initial.ensures c.if-not-known_initial.false c.if-f-s.false c.packed-nuc.ensures in
-    let a = fitting w (fits_first w c.first_base.ensures c.initial_fits.ensures) c.if-not-initial_fits.false c.packed-fin.ensures in
-    decided c.args.tone c.args.free a c.known_final.ensures c.if-not-known_final.false (ap not (sym (as_listed a c.if-not-free.true c.listed.ensures c.if-not-listed.true))) refl
-
+-- check 6: the nucleus is listed, or its letters are free and some one agrees
 pub returns-then-not-some_agrees : goal.returns-then-not-some_agrees
 returns-then-not-some_agrees c =
     let b = begun c.apart-parts.ensures c.if-i-n.false c.packed-ini.ensures in
     let w = whole b c.known_initial.ensures c.if-not-known_initial.false c.if-f-s.false c.packed-nuc.ensures in
     let a = fitting w (fits_first w c.first_base.ensures c.initial_fits.ensures) c.if-not-initial_fits.false c.packed-fin.ensures in
-    decided c.args.tone c.args.free a c.known_final.ensures c.if-not-known_final.false (ap not (sym (as_agreeing a c.if-not-free.false c.some_agrees.ensures c.if-not-some_agrees.true))) refl
+    let six : sixth c.args.free (map letter c.args.s.now) ≡ c.if-listed.value =
+    elim c.if-listed.branch [
+      | then-listed q ↦ is_listed a c.args.free c.listed.ensures q.if-listed.true ∙ sym (q.value-is ∙ q.if-listed.true)
+      | else-listed+then-free q ↦ as_agreeing a q.if-free.true q.some_agrees.ensures (sym q.value-is)
+      | else-listed+else-free q ↦ as_listed a q.if-free.false c.listed.ensures q.if-listed.false ∙ sym (q.value-is ∙ q.if-free.false)
+    ] in
+    decided c.args.tone c.args.free a c.known_final.ensures c.if-not-known_final.false (ap not (sym (six ∙ c.if-not-some_agrees.true))) refl
 
--- check 6 does not hold: the nucleus is listed, or its letters are free and some one agrees
 pub returns-then-not-tone_fits : goal.returns-then-not-tone_fits
 returns-then-not-tone_fits c =
     let b = begun c.apart-parts.ensures c.if-i-n.false c.packed-ini.ensures in
     let w = whole b c.known_initial.ensures c.if-not-known_initial.false c.if-f-s.false c.packed-nuc.ensures in
     let a = fitting w (fits_first w c.first_base.ensures c.initial_fits.ensures) c.if-not-initial_fits.false c.packed-fin.ensures in
-    let six : sixth c.args.free (map letter c.args.s.now) ≡ true =
-    elim c.if-not-listed.branch [
-      | then-not-listed+else-not-free+else-not-some_agrees q ↦ as_agreeing a q.if-not-free.false q.some_agrees.ensures q.if-not-some_agrees.false
-      | else-not-listed q ↦ is_listed a c.args.free c.listed.ensures q.if-not-listed.false
+    let six : sixth c.args.free (map letter c.args.s.now) ≡ c.if-listed.value =
+    elim c.if-listed.branch [
+      | then-listed q ↦ is_listed a c.args.free c.listed.ensures q.if-listed.true ∙ sym (q.value-is ∙ q.if-listed.true)
+      | else-listed+then-free q ↦ as_agreeing a q.if-free.true q.some_agrees.ensures (sym q.value-is)
+      | else-listed+else-free q ↦ as_listed a q.if-free.false c.listed.ensures q.if-listed.false ∙ sym (q.value-is ∙ q.if-free.false)
     ] in
-    decided c.args.tone c.args.free a c.known_final.ensures c.if-not-known_final.false (ap not (sym six)) (ap not (sym c.if-not-tone_fits.true ∙ c.tone_fits.ensures _ a.fin))
+    decided c.args.tone c.args.free a c.known_final.ensures c.if-not-known_final.false (ap not (sym (six ∙ c.if-not-some_agrees.false))) (ap not (sym c.if-not-tone_fits.true ∙ c.tone_fits.ensures _ a.fin))
 
 pub returns : goal.returns
 returns c =
     let b = begun c.apart-parts.ensures c.if-i-n.false c.packed-ini.ensures in
     let w = whole b c.known_initial.ensures c.if-not-known_initial.false c.if-f-s.false c.packed-nuc.ensures in
     let a = fitting w (fits_first w c.first_base.ensures c.initial_fits.ensures) c.if-not-initial_fits.false c.packed-fin.ensures in
-    let six : sixth c.args.free (map letter c.args.s.now) ≡ true =
-    elim c.if-not-listed.branch [
-      | then-not-listed+else-not-free+else-not-some_agrees q ↦ as_agreeing a q.if-not-free.false q.some_agrees.ensures q.if-not-some_agrees.false
-      | else-not-listed q ↦ is_listed a c.args.free c.listed.ensures q.if-not-listed.false
+    let six : sixth c.args.free (map letter c.args.s.now) ≡ c.if-listed.value =
+    elim c.if-listed.branch [
+      | then-listed q ↦ is_listed a c.args.free c.listed.ensures q.if-listed.true ∙ sym (q.value-is ∙ q.if-listed.true)
+      | else-listed+then-free q ↦ as_agreeing a q.if-free.true q.some_agrees.ensures (sym q.value-is)
+      | else-listed+else-free q ↦ as_listed a q.if-free.false c.listed.ensures q.if-listed.false ∙ sym (q.value-is ∙ q.if-free.false)
     ] in
-    decided c.args.tone c.args.free a c.known_final.ensures c.if-not-known_final.false (ap not (sym six)) (ap not (sym c.if-not-tone_fits.false ∙ c.tone_fits.ensures _ a.fin))
+    decided c.args.tone c.args.free a c.known_final.ensures c.if-not-known_final.false (ap not (sym (six ∙ c.if-not-some_agrees.false))) (ap not (sym c.if-not-tone_fits.false ∙ c.tone_fits.ensures _ a.fin))

@@ -1,17 +1,25 @@
--- `syllable::tone_fits` meets its contract. Assumes nothing.
-use mathlib.Core.Path.{sym}
-use mathlib.Core.Bool.{not, ◌||◌}
-use Rattle.rules.specs.TakingApart.{stop, fits}
+-- `syllable::tone_fits` meets its contract: an acute and a dot fit every final, and any other tone what is no stop.
+use mathlib.Core.Path.{◌≡◌, refl, ap}
+use mathlib.Core.Bool.{true, not}
+use mathlib.Core.Logic.{◌⊎◌, inl, inr}
+use Prim.Native.Nat.{ℕ}
+use borrow.Author.Tests.{ne_eqb}
+use Rattle.rules.specs.Letters.{Letters, acute, dot}
+use Rattle.rules.specs.TakingApart.{fits}
 use Rattle.syllable.proofs.tone_fits.Goals as goal
 
-pub returns-then-tone : goal.returns-then-tone
+fitting : (f : Letters) (tone : ℕ) → (tone ≡ acute) ⊎ (tone ≡ dot) → true ≡ fits f tone
 unfolding fits
-returns-then-tone c f q j = sym c.if-tone.true j || not (stop f)
+fitting f tone (inl e) = rw e refl
+fitting f tone (inr e) = rw e refl
 
-pub stop-requires : goal.stop-requires
-unfolding fits
-stop-requires c = tt
+pub returns-in-1 : goal.returns-in-1
+returns-in-1 c f q = fitting f c.args.tone c.in-1.is
 
-pub returns : goal.returns
+pub returns-in_default : goal.returns-in_default
 unfolding fits
-returns c f q j = sym c.if-tone.false j || not (c.stop.ensures f q j)
+returns-in_default c f q =
+    let t = c.args.tone in
+    let n : t ≡ acute → ⊥ = λ e. c.in_default.in_default-own.rest.1 (inl e) in
+    let m : t ≡ dot → ⊥ = λ e. c.in_default.in_default-own.rest.1 (inr e) in
+    rw (ne_eqb t acute n, ne_eqb t dot m) (ap not (c.stop.ensures f q))

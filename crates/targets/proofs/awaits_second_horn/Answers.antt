@@ -1,16 +1,12 @@
 -- `targets::awaits_second_horn` meets its contract: by the last letter, and by those before it.
-use mathlib.Core.Path.{sym, ◌∙◌}
+use Rattle.std.proofs.Common.{arith, sym, ◌∙◌}
 use Prim.Native.Char.{code}
-use native.Mathlib.Omega.{arith}
 use Rattle.rules.specs.Letters.{horn, words, small}
-use Rattle.targets.proofs.Ends.{no_end, other_end, same_end}
+use Rattle.targets.proofs.Ends.{other_end, same_end}
 use Rattle.targets.proofs.awaits_second_horn.Goals as goal
 
-pub returns-then-n-eq0 : goal.returns-then-n-eq0
-returns-then-n-eq0 c = no_end c.args.letters.now c.if-n-eq0.true (small (code "o") horn) (words "hu khu thu")
+pub returns-then-is : goal.returns-then-is
+returns-then-is c = same_end c.args.letters.now (omega arith) (small (code "o") horn) (words "hu khu thu") (sym c.is.ensures ∙ c.if-is.true) c.is_hu.ensures
 
-pub returns-then-not-is : goal.returns-then-not-is
-returns-then-not-is c = other_end c.args.letters.now (omega arith) (small (code "o") horn) (words "hu khu thu") (sym c.is.ensures ∙ c.if-not-is.true)
-
-pub returns : goal.returns
-returns c = same_end c.args.letters.now (omega arith) (small (code "o") horn) (words "hu khu thu") (sym c.is.ensures ∙ c.if-not-is.false) c.is_hu.ensures
+pub returns-else-is : goal.returns-else-is
+returns-else-is c = c.if-is.false ∙ other_end c.args.letters.now (omega arith) (small (code "o") horn) (words "hu khu thu") (sym c.is.ensures ∙ c.if-is.false)

@@ -1,16 +1,12 @@
 -- `targets::is_hu` meets its contract: by the last letter, and by those before it.
-use mathlib.Core.Path.{sym, ◌∙◌}
+use Rattle.std.proofs.Common.{arith, sym, ◌∙◌}
 use Prim.Native.Char.{code}
-use native.Mathlib.Omega.{arith}
 use Rattle.rules.specs.Letters.{plain, words, small}
-use Rattle.targets.proofs.Ends.{no_end, other_end, same_end}
+use Rattle.targets.proofs.Ends.{other_end, same_end}
 use Rattle.targets.proofs.is_hu.Goals as goal
 
-pub returns-then-n-eq0 : goal.returns-then-n-eq0
-returns-then-n-eq0 c = no_end c.args.letters.now c.if-n-eq0.true (small (code "u") plain) (words "h kh th")
+pub returns-then-is : goal.returns-then-is
+returns-then-is c = same_end c.args.letters.now (omega arith) (small (code "u") plain) (words "h kh th") (sym c.is.ensures ∙ c.if-is.true) c.is_h_kh_th.ensures
 
-pub returns-then-not-is : goal.returns-then-not-is
-returns-then-not-is c = other_end c.args.letters.now (omega arith) (small (code "u") plain) (words "h kh th") (sym c.is.ensures ∙ c.if-not-is.true)
-
-pub returns : goal.returns
-returns c = same_end c.args.letters.now (omega arith) (small (code "u") plain) (words "h kh th") (sym c.is.ensures ∙ c.if-not-is.false) c.is_h_kh_th.ensures
+pub returns-else-is : goal.returns-else-is
+returns-else-is c = c.if-is.false ∙ other_end c.args.letters.now (omega arith) (small (code "u") plain) (words "h kh th") (sym c.is.ensures ∙ c.if-is.false)

@@ -2,15 +2,11 @@
 use mathlib.Core.Path.{◌≡◌}
 use mathlib.Core.Bool.{false}
 use mathlib.Core.List.{map}
-use Prim.Native.Nat.{◌-◌, ◌≤◌}
-use lib.ListN.{length, drop}
 use Rattle.rules.specs.TheWord.{letter}
 use Rattle.targets.specs.Places.{pair_place}
 use Rattle.targets.proofs.Turns.{from}
 use Rattle.targets.proofs.pair.Given as goal
 
 abbrev pub invariant-loop-i : goal.invariant-loop-i
-invariant-loop-i l = (l.i ≤ length l.letters) × (from l.i (pair_place l.after_q (map letter (drop l.i l.letters))) ≡ pair_place false (map letter l.letters))
-
-abbrev pub decreases-loop-i : goal.decreases-loop-i
-decreases-loop-i l = length l.letters - l.i
+invariant-loop-i l =
+    (l.i-iterator.iter.parts.size ≡ 2) × (from l.i-iterator.count (pair_place l.after_q (map letter l.i-iterator.iter.parts.rest.now)) ≡ pair_place false (map letter l.letters))

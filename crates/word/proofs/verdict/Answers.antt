@@ -1,21 +1,20 @@
 -- `word::verdict` meets its contract: refused, or answered over the front part.
-use mathlib.Core.Path.{◌≡◌, sym, ap, ◌∙◌}
+use Rattle.std.specs.Prelude.{Ok, Err}
+use mathlib.Core.Path.{sym, ap, ◌∙◌}
 use native.Mathlib.Omega.{arith}
-use lib.ListN.{length}
-use borrow.Author.Rules.{rules}
-use Rattle.rules.specs.declared.VerdictAnswer.TheVariants.{Judged}
+use Rattle.std.proofs.lemmas.Result.{err_from_is_err_and}
 use Rattle.rules.proofs.Range.{few_letters}
-use Rattle.word.proofs.Answers.{verdict_refused, verdict_judged}
+use Rattle.word.proofs.Answers.{within, without, verdict_refused, verdict_judged}
 use Rattle.word.proofs.verdict.Goals as goal
 
-pub returns-then-out_of_range : goal.returns-then-out_of_range
-returns-then-out_of_range c = sym (verdict_refused c.args.w (sym c.out_of_range.ensures ∙ c.if-out_of_range.true))
+pub returns-in_err-in_range : goal.returns-in_err-in_range
+returns-in_err-in_range c =
+    let p = err_from_is_err_and c.from_residual.result c.from_residual.ensures.1 in
+    let out = without c.args.w _ (sym c.in_range.ensures ∙ c.in_err-in_range.was) in
+    p.1 ∙ ap Err (p.2 ∙ out.1) ∙ sym (verdict_refused c.args.w out.0)
 
-pub slice_bounds-verdict-end : goal.slice_bounds-verdict-end
-slice_bounds-verdict-end c =
-    let w = c.args.w in
-    let e : length w.letters ≡ 32 = search rules in
-    omega (arith, few_letters w (sym c.out_of_range.ensures ∙ c.if-out_of_range.false))
+pub shared_ref_as_front-verdict : goal.shared_ref_as_front-verdict
+shared_ref_as_front-verdict c = omega (arith, few_letters c.args.w (within c.args.w _ (sym c.in_range.ensures ∙ c.in_ok-in_range.was)))
 
 pub returns : goal.returns
-returns c = ap Judged c.verdict.ensures ∙ sym (verdict_judged c.args.w (sym c.out_of_range.ensures ∙ c.if-out_of_range.false))
+returns c = ap Ok c.verdict.ensures ∙ sym (verdict_judged c.args.w (within c.args.w _ (sym c.in_range.ensures ∙ c.in_ok-in_range.was)))

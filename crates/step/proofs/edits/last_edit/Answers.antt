@@ -1,14 +1,10 @@
 -- `step::edits::last_edit` meets its contract: the place that is found lies in the word.
-use mathlib.Core.Path.{refl, sym, ◌∙◌}
 use Rattle.targets.specs.Places.{wanted}
-use Rattle.step.proofs.Aimings.{as_found, last_at, last_aimed}
+use Rattle.step.proofs.Aimings.{as_found, last_at, last_there}
 use Rattle.step.proofs.edits.last_edit.Goals as goal
 
-pub returns-in_default : goal.returns-in_default
-returns-in_default c = as_found c.args.kind (last_at (wanted c.args.key) c.args.letters.now c.args.count c.args.kind (sym c.last_wanted-place.ensures ∙ c.in_default.is)) (record { told = refl; left = refl })
-
-pub at-requires : goal.at-requires
-at-requires c = last_aimed (wanted c.args.key) c.args.letters.now c.args.count c.args.kind c.requires.0 c.requires.1 (sym c.last_wanted-place.ensures ∙ c.in-At.is)
+pub at_place-requires : goal.at_place-requires
+at_place-requires c = last_there c.args.letters.now (wanted c.args.key) c.args.kind c.last_wanted-place.ensures c.requires.0 c.requires.1
 
 pub returns : goal.returns
-returns c = as_found c.args.kind (last_at (wanted c.args.key) c.args.letters.now c.args.count c.args.kind (sym c.last_wanted-place.ensures ∙ c.in-At.is)) c.at.ensures
+returns c = as_found c.args.kind (last_at c.args.letters.now (wanted c.args.key) c.args.kind c.last_wanted-place.ensures) c.at_place.ensures

@@ -2,7 +2,6 @@
 use mathlib.Core.Path.{◌≡◌, refl, sym, ap, subst, ◌∙◌}
 use mathlib.Core.List.{List, map}
 use Prim.Native.Nat.{ℕ}
-use lib.ListN.{take}
 use Rattle.rules.specs.Letters.{Letters, circumflex, breve}
 use Rattle.rules.specs.TheWord.{letter}
 use Rattle.rules.specs.KeyRoles as Rules
@@ -22,16 +21,16 @@ by_key kind w {l = l} {r = r} {m = m} e p q =
     as_key w e (subst (λ (d : Rules.Edit). Edits d l r m) (ap (λ (x : ShapeKey). asked kind (last (wanted x) kind w)) e ∙ p) q)
 
 pub returns-in-CircumflexOn : goal.returns-in-CircumflexOn
-returns-in-CircumflexOn c = as_key (map letter (take c.args.count c.args.letters.now)) c.in-CircumflexOn.is c.own_edit.ensures
+returns-in-CircumflexOn c = as_key (map letter c.args.letters.now) c.in-CircumflexOn.is c.own_edit.ensures
 
 pub returns-in-Circumflex : goal.returns-in-Circumflex
-returns-in-Circumflex c = by_key circumflex (map letter (take c.args.count c.args.letters.now)) c.in-Circumflex.is refl c.last_edit.ensures
+returns-in-Circumflex c = by_key circumflex (map letter c.args.letters.now) c.in-Circumflex.is refl c.last_edit.ensures
 
 pub returns-in-Breve : goal.returns-in-Breve
-returns-in-Breve c = by_key breve (map letter (take c.args.count c.args.letters.now)) c.in-Breve.is refl c.last_edit-in-Breve.ensures
+returns-in-Breve c = by_key breve (map letter c.args.letters.now) c.in-Breve.is refl c.last_edit-in-Breve.ensures
 
 pub returns-in-Horn : goal.returns-in-Horn
-returns-in-Horn c = as_key (map letter (take c.args.count c.args.letters.now)) c.in-Horn.is c.horn_edit.ensures
+returns-in-Horn c = as_key (map letter c.args.letters.now) c.in-Horn.is c.horn_edit.ensures
 
 pub returns-in-HornBreve : goal.returns-in-HornBreve
-returns-in-HornBreve c = as_key (map letter (take c.args.count c.args.letters.now)) c.in-HornBreve.is c.horn_or_breve.ensures
+returns-in-HornBreve c = as_key (map letter c.args.letters.now) c.in-HornBreve.is c.horn_or_breve.ensures

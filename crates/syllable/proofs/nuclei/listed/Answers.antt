@@ -6,12 +6,6 @@ use Rattle.syllable.proofs.PackedWords.{table_packs}
 use Rattle.syllable.proofs.Searches.{listed_is, takes_none}
 use Rattle.syllable.proofs.nuclei.listed.Goals as goal
 
-pub stands-requires : goal.stands-requires
-stands-requires c = tt
-
-pub takes-requires : goal.takes-requires
-takes-requires c = tt
-
 pub returns : goal.returns
 returns c w v f i n q =
     let s = c.stands.result in let t = c.takes.result in

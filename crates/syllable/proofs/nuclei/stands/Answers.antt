@@ -3,12 +3,14 @@ use mathlib.Core.Path.{◌≡◌, refl, sym, ap, ◌∙◌}
 use mathlib.Core.Bool.{Bool, true, false, not, ◌&&◌, ◌||◌, or-true, or-false}
 use Prim.Native.Nat.{ℕ, ◌%◌}
 use lib.Dec.{eqb, leb}
-use borrow.Author.Tests.{eq-eqb, ne_eqb}
+use borrow.Author.Tests.{eq-eqb, ne_eqb, le-leb}
 use Rattle.rules.specs.Letters.{Letters, elem, word, words}
 use Rattle.rules.specs.TakingApart.{implies, stands}
 use Rattle.syllable.specs.Numbers.{num, nums, Packs}
 use Rattle.rules.proofs.Bools.{and_true, and_false}
 use Rattle.syllable.proofs.PackedWords.{same_is, one_is, none_is, begins_o}
+use Rattle.syllable.proofs.Keys.{keys, no_elem}
+use mathlib.Core.List.{[], ◌∷◌}
 use Rattle.syllable.proofs.nuclei.stands.Goals as goal
 
 module _ {p q : ℕ} {w v : Letters} (i : Packs p w) (n : Packs q v) where
@@ -46,14 +48,25 @@ module _ {p q : ℕ} {w v : Letters} (i : Packs p w) (n : Packs q v) where
     after_other : (p ≡ num (word "qu") → ⊥) → (p ≡ 0 → ⊥) → not yê ≡ stands w v
     after_other m l = sym (or-false (not yê)) ∙ and_true _ ∙ rule not_uơ (sym (ne_eqb p 0 l)) (sym (ne_eqb p (num (word "qu")) m))
 
-pub returns-then-nuc-eq-UOW : goal.returns-then-nuc-eq-UOW
-returns-then-nuc-eq-UOW c w v i n = is_uơ i n c.if-nuc-eq-UOW.true
+-- uơ, after none of h, kh and th
+pub returns-in_default : goal.returns-in_default
+returns-in_default c w v i n =
+    no_elem c.args.ini (nums (words "h kh th")) (keys (words "h kh th") ∷ []) tt (c.in_default.in_default-own.rest.1, tt) ∙ is_uơ i n c.if-nuc-eq-UOW.true
 
-pub returns-then-ini-eq-QU : goal.returns-then-ini-eq-QU
-returns-then-ini-eq-QU c w v i n = after_qu i n c.if-nuc-eq-UOW.false c.if-ini-eq-QU.true
+pub returns-else-nuc-lt-NEXT : goal.returns-else-nuc-lt-NEXT
+returns-else-nuc-lt-NEXT c w v i n =
+    let k = c.args.nuc in
+    ap (λ (t : Bool). not (t && eqb (k % 512) (num (word "o")))) (sym (le-leb 4096 k c.if-nuc-lt-NEXT.false)) ∙ after_qu i n c.if-nuc-eq-UOW.false c.in-962787.is
 
-pub returns-then-ini-eq-NONE : goal.returns-then-ini-eq-NONE
-returns-then-ini-eq-NONE c w v i n = after_none i n c.if-nuc-eq-UOW.false c.if-ini-eq-QU.false c.if-ini-eq-NONE.true
+pub returns-then-nuc-ne-YEE : goal.returns-then-nuc-ne-YEE
+returns-then-nuc-ne-YEE c w v i n =
+    let k = c.args.nuc in
+    let rest = c.in_default-ini.in_default-ini-own.rest in
+    ap (λ (t : Bool). not (t || eqb k (num (word "yêu")))) (sym (ne_eqb k (num (word "yê")) c.if-nuc-ne-YEE.true)) ∙ after_other i n c.if-nuc-eq-UOW.false rest.0.1 rest.1
 
-pub returns : goal.returns
-returns c w v i n = after_other i n c.if-nuc-eq-UOW.false c.if-ini-eq-QU.false c.if-ini-eq-NONE.false
+pub returns-else-nuc-ne-YEE : goal.returns-else-nuc-ne-YEE
+returns-else-nuc-ne-YEE c w v i n =
+    let k = c.args.nuc in
+    let e = eq-eqb k (num (word "yê")) c.if-nuc-ne-YEE.false in
+    let rest = c.in_default-ini.in_default-ini-own.rest in
+    ap not e ∙ ap (λ (t : Bool). not (t || eqb k (num (word "yêu")))) (sym e) ∙ after_other i n c.if-nuc-eq-UOW.false rest.0.1 rest.1

@@ -1,0 +1,25 @@
+-- `felcantuzza::decision` meets its contract: no record, refused, or answered.
+use Rattle.std.specs.Prelude.{Ok, Err}
+use mathlib.Core.Path.{sym, ap, ◌∙◌}
+use Rattle.felcantuzza.specs.Calls.{number_by, only_one, placed, no_record}
+use Rattle.std.proofs.lemmas.Result.{err_from_is_err_and}
+use Rattle.rules.specs.AnswersInNumbers.{decision_says}
+use Rattle.rules.specs.WhatComesBack as Rules
+use Rattle.felcantuzza.specs.Calls as Calls
+use Rattle.felcantuzza.proofs.CallAnswers.{no_word, said}
+use Rattle.felcantuzza.proofs.decision.Goals as goal
+
+pub returns-in_default : goal.returns-in_default
+unfolding Calls.decision
+returns-in_default c =
+    ap Err c.no_record.ensures ∙ sym (ap (number_by only_one) (no_word c.args.lent.now (sym c.in_default.is ∙ c.read.ensures) _))
+
+pub returns-in_err-decision : goal.returns-in_err-decision
+unfolding Calls.decision
+returns-in_err-decision c =
+    let p = err_from_is_err_and c.from_residual.result c.from_residual.ensures.1 in
+    p.1 ∙ ap Err p.2 ∙ ap (number_by only_one) (said c.args.lent.now (sym c.in-Some.is ∙ c.read.ensures) decision_says Rules.decision_answer (sym c.in_err-decision.was ∙ c.decision.ensures))
+
+pub returns : goal.returns
+unfolding Calls.decision
+returns c = ap Ok c.decision_number.ensures ∙ ap (number_by only_one) (said c.args.lent.now (sym c.in-Some.is ∙ c.read.ensures) decision_says Rules.decision_answer (sym c.in_ok-decision.was ∙ c.decision.ensures))

@@ -1,7 +1,0 @@
--- `filter::run` is safe: the header lies within the output, and the output has room for the answers to a block.
-use Rattle.filter.proofs.Lengths.{header_in_front}
-use Rattle.filter.proofs.run.Goals as goal
-
-pub slice_bounds-written-end : goal.slice_bounds-written-end
-slice_bounds-written-end c =
-    header_in_front _ _ c.header.result c.in-Wrote.n c.in-Wrote.is c.args.program c.header.ensures.0 c.header.ensures.1

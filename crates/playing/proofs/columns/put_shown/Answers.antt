@@ -1,6 +1,0 @@
--- `playing::columns::put_shown` is safe: the shown text lies within its buffer.
-use Rattle.playing.proofs.Lengths.{shown_within}
-use Rattle.playing.proofs.columns.put_shown.Goals as goal
-
-pub slice_bounds-put-end : goal.slice_bounds-put-end
-slice_bounds-put-end c = shown_within c.args.w _ _ c.show.result _ c.in-Wrote.is c.show.ensures.0 c.show.ensures.1

@@ -1,8 +1,0 @@
--- `playing::commit` is safe: the word's line lies within its buffer.
-use Rattle.playing.proofs.Lengths.{line_within}
-use Rattle.playing.proofs.commit.Goals as goal
-
-pub slice_bounds-put_committed-end : goal.slice_bounds-put_committed-end
-slice_bounds-put_committed-end c =
-    let word = c.commit_word-answer in
-    line_within _ _ _ _ word.result _ c.in-Committed.is word.ensures.0 word.ensures.1

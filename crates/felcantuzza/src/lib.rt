@@ -60,6 +60,7 @@ fn outcome_number(outcome: Outcome) -> usize
     }
 }
 
+// C's own numbers too.
 fn decision_number(decision: Decision) -> usize
     ensures { result ≡ decision_number_of decision }
 {

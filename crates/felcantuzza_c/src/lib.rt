@@ -1,4 +1,5 @@
 // What the box links: the calls of felcantuzza, each exported to C under its own name, with its contract, and in its body the call alone.
+// The header gives C these names, so each call stands here once more.
 #![tactic(auto)]
 
 ghost use Rattle.felcantuzza.specs.Calls as Calls;

@@ -17,6 +17,7 @@ const BLOCK: usize = 16384;
 
 const OUTPUT: usize = 512 + 12 * BLOCK;
 
+// By program, as the answers are.
 fn complain(rt: &HostRuntime, program: Program, failed: &[u8]) {
     let name = match program {
         Program::Drill | Program::DrillWithKeys => b"drill: cannot ",

@@ -125,7 +125,7 @@ pub fn show_in(w: &Word, out: &mut [u8]) -> Result<usize, Refusal>
     text(&w.letters[..w.count as usize], w.tone, out)
 }
 
-// The same of a record.
+// The same of a record by value: an entry of its own, with its clause.
 pub fn show(w: Word, out: &mut [u8]) -> Result<usize, Refusal>
     ensures { (result ≡ (show_of w out.old).answer) × (out.new ≡ (show_of w out.old).output) }
 {

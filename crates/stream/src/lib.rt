@@ -77,6 +77,7 @@ impl Begun {
 }
 
 // What stands in front of all answers, at the front of the output: the drill's first line, and nothing for the speller. Refusals: 4 with the bytes needed; the output is then as it was.
+// The clause says of which program it is: no function is handed in.
 pub fn header(program: Program, out: &mut [u8]) -> Result<usize, Refusal>
     ensures { (result ≡ (put (header_of program) out.old).answer) × (out.new ≡ (put (header_of program) out.old).output) }
 {

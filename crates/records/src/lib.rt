@@ -90,7 +90,7 @@ pub fn numbers_wrong(w: &Word) -> bool
         | !keys::is_mode(w.mode)
 }
 
-// The same of a record that is lent.
+// The whole of refusal 8, of a record that is lent.
 pub fn lent_out_of_range(w: &Word) -> bool
     ensures { result ≡ out_of_range_of w.now }
 {

@@ -49,7 +49,7 @@ impl Word {
         Word::empty(Word::TELEX)
     }
 
-    // A new VNI word.
+    // A new VNI word. An entry of its own beside `telex`, with its clause.
     pub fn vni() -> Word
         ensures { result ≡ new_word vni }
     {

@@ -131,7 +131,7 @@ module _ {text ns : List ℕ} {r : ReadSoFar} (g : Going text ns r) where
 
   -- a letter that is read
   module _ (l : r.at < length text) {n t k : ℕ} (e : read_at text r.at ≡ Some (record { number = n; tone = t; length = k })) where
-    -- what `with_letter` ensures of the next reading
+    -- what the next letter leaves of the reading (`ReadSoFar::add`)
     abbrev Longer : ReadSoFar → Type 0
     Longer next = (us : List Sign) (s : Sign) → r ≡ reading_of r.at us → t ≡ s.tone → next ≡ reading_of (r.at + k) (us ++ (s ∷ []))
 

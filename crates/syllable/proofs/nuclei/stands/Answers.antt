@@ -42,9 +42,6 @@ module _ {p q : ℕ} {w v : Letters} (i : Packs p w) (n : Packs q v) where
     after_qu : p ≡ num (word "qu") → not o ≡ stands w v
     after_qu e = and_true (not o) ∙ ap (λ (b : Bool). b && (not o && true)) (sym (or-true (not yê))) ∙ rule not_uơ (ap (λ (k : ℕ). eqb k 0) (sym e)) (sym (eq-eqb p (num (word "qu")) e))
 
-    after_none : (p ≡ num (word "qu") → ⊥) → p ≡ 0 → true ≡ stands w v
-    after_none m e = ap (λ (b : Bool). b && true) (sym (or-true (not yê))) ∙ rule not_uơ (sym (eq-eqb p 0 e)) (sym (ne_eqb p (num (word "qu")) m))
-
     after_other : (p ≡ num (word "qu") → ⊥) → (p ≡ 0 → ⊥) → not yê ≡ stands w v
     after_other m l = sym (or-false (not yê)) ∙ and_true _ ∙ rule not_uơ (sym (ne_eqb p 0 l)) (sym (ne_eqb p (num (word "qu")) m))
 

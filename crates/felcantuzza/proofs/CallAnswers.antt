@@ -173,6 +173,9 @@ committed mode keys text a x p q = go (refusal (Rules.commit_call mode keys text
     go (Some y) = refl
 
 -- the speller
-pub spelled : (mode : ℕ) (text out : List ℕ) {a : Result ℕ Refusal} → a ≡ (Rules.spell mode text out).answer → a ≡ number_by only_one (Calls.spell mode text out)
+pub spelled : (mode : ℕ) (text out : List ℕ) (a x : Result ℕ Refusal) → a ≡ (Rules.spell mode text out).answer → a ≡ x → Calls.spell mode text out ≡ write_says x
 unfolding Calls.spell
-spelled mode text out p = p ∙ its_number (Rules.spell mode text out).answer
+spelled mode text out a x p q = ap write_says (sym p ∙ q)
+
+pub spelled_number : (mode : ℕ) (text out : List ℕ) {a : Result ℕ Refusal} → a ≡ (Rules.spell mode text out).answer → a ≡ number_by only_one (Calls.spell mode text out)
+spelled_number mode text out {a} p = its_number a ∙ ap (number_by only_one) (sym (spelled mode text out a a p refl))

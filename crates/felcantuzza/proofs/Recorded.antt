@@ -48,7 +48,7 @@ module _ (mode : ℕ) (xs : List KeyPress) (out : List ℕ) (x : Refusal) where
   by_mode false = by_press (none_yet mode) 0 xs
 
 module _ (mode : ℕ) (presses out : List ℕ) where
-  pub written : {a x : Result ℕ Refusal} → a ≡ (written_drill mode presses out).answer → a ≡ x → Recordings.record_drill mode presses out ≡ write_says x
+  pub written : {a : Result ℕ Refusal} → a ≡ (written_drill mode presses out).answer → {x : Result ℕ Refusal} → a ≡ x → Recordings.record_drill mode presses out ≡ write_says x
   unfolding Recordings.record_drill
   written p q = ap write_says (sym p ∙ q)
 

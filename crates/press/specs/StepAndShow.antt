@@ -1,4 +1,4 @@
--- A key typed and the word shown, from `step` and `show` of the rules: refused as the step refuses; else as show of the new word refuses; else done. After a refusal word and output are unchanged.
+-- A key typed and the word shown, from `step` and `show` of the rules: refused as the step refuses; else as show of the new word refuses; else done. After a refusal word and output are unchanged. And the same of a word that is lent as its record's bytes.
 use Rattle.std.specs.Prelude.{Bool, true, false, List, ℕ, Result, Ok, Err}
 use Rattle.rules.specs.WhatComesBack.{step, show}
 use Rattle.rules.specs.declared.Word.{Word}

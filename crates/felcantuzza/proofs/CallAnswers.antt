@@ -2,7 +2,7 @@
 use Rattle.std.specs.Prelude.{Option, Some, None, Result, Ok, Err, ⊤, is_some}
 use Rattle.std.specs.Option.{unwrap_or}
 use mathlib.Core.Path.{◌≡◌, refl, sym, ap, ap₂, ◌∙◌}
-use mathlib.Core.Bool.{Bool, true, false, ◌&&◌}
+use mathlib.Core.Bool.{Bool, true, false}
 use mathlib.Core.List.{List, [], ◌∷◌}
 use Prim.Native.Nat.{ℕ}
 use native.Mathlib.Omega.{arith}
@@ -19,11 +19,11 @@ use Rattle.rules.specs.declared.Outcome.{Outcome}
 use Rattle.rules.specs.declared.Decision.{Decision}
 use Rattle.rules.specs.declared.Decision.TheVariants.{Keep as Kept, Restore as Restored}
 use Rattle.rules.proofs.Refused.{refused_show}
-use Rattle.layout.specs.Places.{as_record, record_if, is_mark, byte, record_written, is_record, held, or_new}
+use Rattle.layout.specs.Places.{as_record, record_written, is_record, held, or_new}
 use Rattle.step.specs.InPlace.{bytes_after, step_if, step_at}
-use Rattle.press.specs.StepAndShow.{show_or, pressed_or, step_and_show}
+use Rattle.press.specs.StepAndShow.{show_or, pressed_or, step_and_show, press_if, press_at}
+use Rattle.press.specs.StepAndShow.{bytes_after as shown_after}
 use Rattle.press.specs.declared.StepShown.{StepShown}
-use Rattle.press.proofs.Shows.{refused_so}
 use Rattle.commit.specs.Rulings.{ruling_or, ruling_of}
 use Rattle.commit.specs.Rulings.{decided as ruled}
 use Rattle.commit.specs.declared.Ruling.{Ruling}
@@ -99,24 +99,6 @@ module _ (lent : List ℕ) (key : ℕ) where
       go true = by_answer (Rules.step (held lent) key).answer
       go false = refl
 
-  -- and shown: where the bytes are not as many as a record's
-  pub not_long : (out : List ℕ) → (length lent ≡ 169 → ⊥) → Calls.type_and_show lent key out ≡ refusing no_record
-  unfolding Calls.type_and_show as_record
-  not_long out h =
-      ap (λ (b : Bool). of_record (is_some (record_if (b && is_mark (byte 3 lent)) lent)) (shown_says (step_and_show (held lent) key out).result.answer)) (ne_eqb (length lent) 169 h)
-
-  -- where the key is refused
-  pub refused_at : (out : List ℕ) (x : Refusal) → (step_at lent key).answer ≡ Err x → Calls.type_and_show lent key out ≡ refusing x
-  unfolding Calls.type_and_show step_at
-  refused_at out x = go (is_record lent)
-    where
-      w : Word
-      w = (held lent)
-
-      go : (b : Bool) → (step_if b w key lent).answer ≡ Err x → of_record b (shown_says (step_and_show w key out).result.answer) ≡ refusing x
-      go true e = sym (ap (λ (y : StepShown). shown_says y.answer) (refused_so w key out (Rules.step w key) refl x e).0)
-      go false e = ap step_says e
-
 -- calls on bytes that are no record, and on a record that is read from them
 module _ (lent : List ℕ) where
   pub no_word : None ≡ as_record lent → (s : Says) → of_record (is_record lent) s ≡ refusing no_record
@@ -134,13 +116,6 @@ module _ (lent : List ℕ) where
         left (Ok n) q = sym (ap (λ (r : Result ℕ Refusal). unless_refused (write_says r) (Rules.show w out).output out) q)
         left (Err x) q = refused_show w out x (ap write_says q) ∙ sym (ap (λ (r : Result ℕ Refusal). unless_refused (write_says r) (Rules.show w out).output out) q)
 
--- typing and showing a record
-module _ (lent : List ℕ) (key : ℕ) (out : List ℕ) (t : is_record lent ≡ true) where
-  pub typed_shown : (s : StepShown) → s ≡ (step_and_show (held lent) key out).result → {y : Result (Outcome × ℕ) Refusal} → s.answer ≡ y → Calls.type_and_show lent key out ≡ shown_says y
-  unfolding Calls.type_and_show
-  typed_shown s p q =
-      ap (λ (b : Bool). of_record b (shown_says (step_and_show (held lent) key out).result.answer)) t ∙ ap shown_says (sym (ap (λ (x : StepShown). x.answer) p) ∙ q)
-
 -- typing and showing that is refused leaves the output
 pub refused_both : (w : Word) (key : ℕ) (out : List ℕ) (x : Refusal) → (step_and_show w key out).result.answer ≡ Err x → (step_and_show w key out).output ≡ out
 unfolding step_and_show
@@ -153,6 +128,46 @@ refused_both w key out x = by_step (Rules.step w key).answer (Rules.step w key).
     by_step : (a : Result Outcome Refusal) (new : Word) → (pressed_or a w new out).result.answer ≡ Err x → (pressed_or a w new out).output ≡ out
     by_step (Ok o) new e = by_show o new (Rules.show new out).answer refl e
     by_step (Err y) new e = refl
+
+-- a key typed into lent bytes, and the word shown
+module _ (lent : List ℕ) (key : ℕ) (out : List ℕ) where
+  abbrev all : StepShown
+  all = (step_and_show (held lent) key out).result
+
+  pub pressed : {a : Result (Outcome × ℕ) Refusal} → a ≡ (press_at lent key out).answer → shown_says a ≡ Calls.type_and_show lent key out
+  unfolding Calls.type_and_show press_at
+  pressed p = ap shown_says p ∙ go (is_record lent)
+    where
+      go : (b : Bool) → shown_says (press_if b (held lent) key lent out).answer ≡ of_record b (shown_says all.answer)
+      go true = refl
+      go false = refl
+
+  pub pressed_bytes : (press_at lent key out).bytes ≡ Calls.type_and_show_word lent key out
+  unfolding Calls.type_and_show press_at
+  pressed_bytes = go (is_record lent)
+    where
+      by_answer : (a : Result (Outcome × ℕ) Refusal) → shown_after a all.word lent ≡ unless_refused (shown_says a) (record_written all.word lent) lent
+      by_answer (Ok done) = refl
+      by_answer (Err x) = refl
+
+      go : (b : Bool) → (press_if b (held lent) key lent out).bytes ≡ unless_refused (of_record b (shown_says all.answer)) (record_written all.word lent) lent
+      go true = by_answer all.answer
+      go false = refl
+
+  pub pressed_output : (press_at lent key out).output ≡ Calls.type_and_show_output lent key out
+  unfolding Calls.type_and_show press_at
+  pressed_output = go (is_record lent)
+    where
+      made : List ℕ
+      made = (step_and_show (held lent) key out).output
+
+      by_answer : (a : Result (Outcome × ℕ) Refusal) → all.answer ≡ a → made ≡ unless_refused (shown_says a) made out
+      by_answer (Ok done) e = refl
+      by_answer (Err x) e = refused_both (held lent) key out x e
+
+      go : (b : Bool) → (press_if b (held lent) key lent out).output ≡ unless_refused (of_record b (shown_says all.answer)) made out
+      go true = by_answer all.answer refl
+      go false = refl
 
 -- what commit's ruling says
 abbrev pub ruling_says : Result Ruling Refusal → Says
@@ -173,6 +188,9 @@ committed mode keys text a x p q = go (refusal (Rules.commit_call mode keys text
     go (Some y) = refl
 
 -- the speller
-pub spelled : (mode : ℕ) (text out : List ℕ) {a : Result ℕ Refusal} → a ≡ (Rules.spell mode text out).answer → a ≡ number_by only_one (Calls.spell mode text out)
+pub spelled : (mode : ℕ) (text out : List ℕ) (a x : Result ℕ Refusal) → a ≡ (Rules.spell mode text out).answer → a ≡ x → Calls.spell mode text out ≡ write_says x
 unfolding Calls.spell
-spelled mode text out p = p ∙ its_number (Rules.spell mode text out).answer
+spelled mode text out a x p q = ap write_says (sym p ∙ q)
+
+pub spelled_number : (mode : ℕ) (text out : List ℕ) {a : Result ℕ Refusal} → a ≡ (Rules.spell mode text out).answer → a ≡ number_by only_one (Calls.spell mode text out)
+spelled_number mode text out {a} p = its_number a ∙ ap (number_by only_one) (sym (spelled mode text out a a p refl))

@@ -1,4 +1,3 @@
-pub mod Rooms
 pub mod CallAnswers
 pub mod Recorded
 pub mod One

@@ -48,9 +48,12 @@ module _ (mode : ℕ) (xs : List KeyPress) (out : List ℕ) (x : Refusal) where
   by_mode false = by_press (none_yet mode) 0 xs
 
 module _ (mode : ℕ) (presses out : List ℕ) where
-  pub written : {a : Result ℕ Refusal} → a ≡ (written_drill mode presses out).answer → a ≡ number_by only_one (Recordings.record_drill mode presses out)
+  pub written : {a : Result ℕ Refusal} → a ≡ (written_drill mode presses out).answer → {x : Result ℕ Refusal} → a ≡ x → Recordings.record_drill mode presses out ≡ write_says x
   unfolding Recordings.record_drill
-  written p = p ∙ its_number (written_drill mode presses out).answer
+  written p q = ap write_says (sym p ∙ q)
+
+  pub written_number : {a : Result ℕ Refusal} → a ≡ (written_drill mode presses out).answer → a ≡ number_by only_one (Recordings.record_drill mode presses out)
+  written_number {a} p = its_number a ∙ ap (number_by only_one) (sym (written p refl))
 
   pub refused_record : {a : Result ℕ Refusal} → a ≡ (written_drill mode presses out).answer → (x : Refusal) → a ≡ Err x → (written_drill mode presses out).output ≡ out
   unfolding written_drill

@@ -103,34 +103,13 @@ pub fn fz_type(lent: &mut [u8], key: u8, value: &mut usize) -> u8
     returned(typed(lent, key), value)
 }
 
-// Into an output that may be too short: the key is typed into a copy of the record, which is handed back once the text is known to fit.
-fn typed_and_shown_short(
-    lent: &mut [u8],
-    key: u8,
-    out: &mut [u8],
-) -> Result<(Outcome, usize), Refusal>
-    ensures { (Calls.shown_says result ≡ Calls.type_and_show lent.old key out.old) × (lent.new ≡ Calls.type_and_show_word lent.old key out.old) × (out.new ≡ Calls.type_and_show_output lent.old key out.old) }
-{
-    if lent.len() != layout::LENGTH {
-        return Err(no_record());
-    }
-    let mut bytes = [0; layout::LENGTH];
-    bytes.copy_from_slice(lent);
-    let outcome = step::step_at(&mut bytes, key)?;
-    // A key that is taken leaves a record.
-    let w = layout::read(&bytes).unwrap();
-    let letters = layout::letters_of(&bytes);
-    let shown = show::text(&letters[..w.count as usize], w.tone, out)?;
-    lent.copy_from_slice(&bytes);
-    Ok((outcome, shown))
-}
-
-// The key is typed where the bytes lie, and of the new word no more is read than is shown.
+// Into an output with room for any text the key is typed where the bytes lie, and of the new word no more is read than is shown; into a shorter
+// one, in a copy.
 fn typed_and_shown(lent: &mut [u8], key: u8, out: &mut [u8]) -> Result<(Outcome, usize), Refusal>
     ensures { (Calls.shown_says result ≡ Calls.type_and_show lent.old key out.old) × (lent.new ≡ Calls.type_and_show_word lent.old key out.old) × (out.new ≡ Calls.type_and_show_output lent.old key out.old) }
 {
     if out.len() < Word::TEXT {
-        return typed_and_shown_short(lent, key, out);
+        return press::press_at(lent, key, out);
     }
     let outcome = step::step_at(lent, key)?;
     // A key that is taken leaves a record.

@@ -8,7 +8,7 @@ use native.Mathlib.Omega.{arith}
 use borrow.Author.Tests.{eq-eqb, ne_eqb}
 use borrow.Rule.Slice.PartMut.{put_mid}
 use mir.Val.{bool_byte}
-use lib.ListN.{length, drop, set, length-append, length-take, length-drop, drop_of_length-le}
+use lib.ListN.{length, drop, set, length-append, length-take, length-drop, length-set, drop_of_length-le}
 use lib.Seq.{take_at, drop_at, drop-cons, drop-drop, set_at}
 use Rattle.rules.specs.declared.Word.{Word}
 use Rattle.rules.proofs.StaysInRange.{Whole}
@@ -94,6 +94,9 @@ head_of w = w.mode ∷ w.count ∷ w.tone ∷ mark_byte w.closed ∷ w.typed ∷
 abbrev pub headed : Word → List ℕ → List ℕ
 headed w l =
     set (set (set (set (set (set (set (set l 0 w.mode) 1 w.count) 2 w.tone) 3 (bool_byte w.closed)) 4 w.typed) 5 w.acted) 6 w.undone) 7 w.appended
+
+pub length_headed : (w : Word) (l : List ℕ) → length (headed w l) ≡ length l
+length_headed w l = simp length-set
 
 -- a buffer with each part put into its place
 abbrev pub put_keys : List ℕ → List ℕ → List ℕ

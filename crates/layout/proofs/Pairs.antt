@@ -17,6 +17,15 @@ length_numbers (suc n) [] e = absurd (omega arith)
 length_numbers (suc n) (a ∷ []) e = absurd (omega arith)
 length_numbers (suc n) (a ∷ b ∷ bs) e = ap suc (length_numbers n bs (omega arith))
 
+pub number_at : (i : ℕ) (bs : List ℕ) → 2 * i + 1 < length bs → get_or (numbers bs) i 0 ≡ get_or bs (2 * i) 0 + 256 * get_or bs (2 * i + 1) 0
+number_at i [] h = absurd (omega arith)
+number_at i (a ∷ []) h = absurd (omega arith)
+number_at zero (a ∷ b ∷ bs) h = refl
+number_at (suc i) (a ∷ b ∷ bs) h =
+    let p : 2 * suc i ≡ suc (suc (2 * i)) = omega arith in
+    let q : 2 * suc i + 1 ≡ suc (suc (2 * i + 1)) = omega arith in
+    number_at i bs (omega arith) ∙ sym (ap₂ (λ (m n : ℕ). get_or (a ∷ b ∷ bs) m 0 + 256 * get_or (a ∷ b ∷ bs) n 0) p q)
+
 -- two bytes as a number, and the high byte of a number
 of_two : (a b : ℕ) → from_le_bytes w16 (a ∷ b ∷ []) ≡ a + 256 * b
 of_two a b = omega arith
@@ -24,12 +33,13 @@ of_two a b = omega arith
 pub high_byte : (n : ℕ) → n < 2 ^ 16 → n / 256 % 256 ≡ n / 256
 high_byte n h = omega arith
 
-number_at : (k i : ℕ) (bs : List ℕ) → i < k → length bs ≡ 2 * k → get_or (numbers bs) i 0 ≡ from_le_bytes w16 (get_or (first_chunks 2 k bs) i [])
-number_at (suc k) i [] h e = absurd (omega arith)
-number_at (suc k) i (a ∷ []) h e = absurd (omega arith)
-number_at (suc k) zero (a ∷ b ∷ bs) h e = sym (of_two a b)
-number_at (suc k) (suc i) (a ∷ b ∷ bs) h e = number_at k i bs (omega arith) (omega arith)
-number_at zero i bs h e = absurd (omega arith)
+-- and as the numbers of the chunks of two
+chunk_at : (k i : ℕ) (bs : List ℕ) → i < k → length bs ≡ 2 * k → get_or (numbers bs) i 0 ≡ from_le_bytes w16 (get_or (first_chunks 2 k bs) i [])
+chunk_at (suc k) i [] h e = absurd (omega arith)
+chunk_at (suc k) i (a ∷ []) h e = absurd (omega arith)
+chunk_at (suc k) zero (a ∷ b ∷ bs) h e = sym (of_two a b)
+chunk_at (suc k) (suc i) (a ∷ b ∷ bs) h e = chunk_at k i bs (omega arith) (omega arith)
+chunk_at zero i bs h e = absurd (omega arith)
 
 -- so far: the first numbers are read
 pub record ReadSoFar (bs : List ℕ) (i : ℕ) (letters : List ℕ) : Type 0 where
@@ -49,7 +59,7 @@ module _ (bs : List ℕ) (long : length bs ≡ 64) where
         places = length-set letters i x ∙ so.places;
         front =
             ap (λ (n : ℕ). take n (set letters i x)) one ∙ take-suc-set letters i x (omega (arith, so.places)) ∙
-            ap₂ (λ (l : List ℕ) (y : ℕ). l ++ (y ∷ [])) so.front (there ∙ sym (number_at 32 i bs h long)) ∙
+            ap₂ (λ (l : List ℕ) (y : ℕ). l ++ (y ∷ [])) so.front (there ∙ sym (chunk_at 32 i bs h long)) ∙
             sym (ap (λ (n : ℕ). take n (numbers bs)) one ∙ take-suc (numbers bs) i 0 (omega arith));
       }
 

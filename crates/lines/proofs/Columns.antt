@@ -1,20 +1,55 @@
--- Columns written one behind the other: two writings after each other, and how long a column can be.
+-- Columns written one behind the other: one column, two writings after each other, and how long a column can be.
 use Rattle.std.specs.Prelude.{Option, Some, None}
 use mathlib.Core.Path.{◌≡◌, refl, sym, ap, subst, ◌∙◌}
 use mathlib.Core.Bool.{Bool, true, false}
 use mathlib.Core.List.{List, [], ◌∷◌, ◌++◌, append_assoc}
 use Prim.Native.Nat.{ℕ, ◌+◌, ◌/◌, ◌%◌, ◌≤◌, ◌<◌}
 use Prim.Native.Char.{code}
+use native.Mathlib.Numerals.{add-one}
 use native.Mathlib.Omega.{arith}
 use lib.Dec.{eqb, ltb, lit≤}
-use lib.ListN.{length, take, length-append}
-use lib.Seq.{length-take-le}
+use lib.ListN.{length, take, drop, set, length-append, length-take, length-drop, length-set}
+use lib.Seq.{take_at, take-suc-set, length-take-le}
 use Rattle.rules.specs.Decision.{handed_back}
 use Rattle.rules.specs.Drill.{newline, decimal, or_hyphen, place_column, joined, columns, place_or_hyphen}
 use Rattle.rules.specs.declared.Decision.{Decision}
 use Rattle.rules.specs.declared.Decision.TheVariants.{Keep, Restore}
 use Rattle.lines.specs.Appending.{Appends, held, ended_by}
 use Rattle.lines.specs.declared.line.Line.{Line}
+
+-- a part copied into a line behind what it holds, and a byte behind it
+module _ (before : Line) (part : List ℕ) (end : ℕ) (room : before.at + length part < length before.text) where
+  abbrev copied : List ℕ
+  copied = take before.at before.text ++ (part ++ drop (length part) (drop before.at before.text))
+
+  as_long : length copied ≡ length before.text
+  as_long = simp (length-append, length-take, length-drop) (omega arith)
+
+  in_front : take (before.at + length part) copied ≡ held before ++ part
+  in_front =
+      let rest = drop (length part) (drop before.at before.text) in
+      let e : copied ≡ (held before ++ part) ++ rest = simp append_assoc in
+      ap (take (before.at + length part)) e ∙
+      take_at (held before ++ part) rest (before.at + length part) (length-append (held before) part ∙ ap (λ (n : ℕ). n + length part) (length-take-le before.at before.text (omega arith)))
+
+  abbrev put : List ℕ
+  put = set copied (before.at + length part) end
+
+  put_front : take (before.at + length part + 1) put ≡ held before ++ (part ++ (end ∷ []))
+  put_front =
+      rw add-one (take-suc-set copied (before.at + length part) end (omega (arith, as_long)) ∙ ap (λ (l : List ℕ). l ++ (end ∷ [])) in_front ∙ append_assoc (held before) part (end ∷ []))
+
+  -- it lies within the line's array, which is as long as before
+  pub column_put : {after : Line} (dst : List ℕ) (k : ℕ) → dst ≡ part → k ≡ length part → after.at ≡ before.at + length part + 1
+      → after.text ≡ set (take before.at before.text ++ (dst ++ drop k (drop before.at before.text))) (before.at + length part) end
+      → (after.at ≤ length after.text) × (length after.text ≡ length before.text) × Appends before after (part ++ (end ∷ []))
+  column_put {after} dst k d e a t =
+      let new : after.text ≡ put = t ∙ (λ i. set (take before.at before.text ++ (d i ++ drop (e i) (drop before.at before.text))) (before.at + length part) end) in
+      let long : length after.text ≡ length before.text = ap (λ (l : List ℕ). length l) new ∙ length-set copied (before.at + length part) end ∙ as_long in (
+        omega (arith, long, a, room),
+        long,
+        record { moved = a ∙ simp length-append (omega arith); front = (λ i. take (a i) (new i)) ∙ put_front },
+      )
 
 -- the same bytes, said otherwise
 pub as_part : {before after : Line} {p q : List ℕ} → p ≡ q → Appends before after p → Appends before after q

@@ -5,7 +5,7 @@ use Prim.Native.Nat.{ℕ, ◌+◌, ◌*◌, ◌≤◌, ◌<◌}
 use Prim.Native.Char.{code}
 use native.Mathlib.Omega.{arith}
 use lib.Dec.{lit≤, lit<}
-use lib.ListN.{length, length-append}
+use lib.ListN.{length, take, length-append, length-take}
 use Rattle.rules.specs.TheWord.{Typed}
 use Rattle.rules.specs.Drill.{newline, or_hyphen, joined, columns, place_or_hyphen, letter_place, each_letter, letter_places, word_columns, key_columns, word_line_with_keys}
 use Rattle.lines.specs.Appending.{Appends, held, ended_by}
@@ -24,10 +24,13 @@ commas [] qs = []
 commas (p ∷ ps) [] = []
 commas (p ∷ ps) (q ∷ qs) = (letter_place p q ++ (code "," ∷ [])) ++ commas ps qs
 
-commas_long : (ps qs : List ℕ) → length (commas ps qs) ≤ 6 * length ps
-commas_long [] qs = lit≤ tt
-commas_long (p ∷ ps) [] = omega arith
-commas_long (p ∷ ps) (q ∷ qs) = omega (arith, length-append (letter_place p q ++ (code "," ∷ [])) (commas ps qs), letter_long p q (code ","), commas_long ps qs)
+all_commas_long : (ps qs : List ℕ) → length (commas ps qs) ≤ 6 * length ps
+all_commas_long [] qs = lit≤ tt
+all_commas_long (p ∷ ps) [] = omega arith
+all_commas_long (p ∷ ps) (q ∷ qs) = omega (arith, length-append (letter_place p q ++ (code "," ∷ [])) (commas ps qs), letter_long p q (code ","), all_commas_long ps qs)
+
+pub commas_long : (i : ℕ) (ps qs : List ℕ) → length (commas (take i ps) (take i qs)) ≤ 6 * i
+commas_long i ps qs = omega (arith, all_commas_long (take i ps) (take i qs), length-take i ps)
 
 -- a line while letters are written: behind what it holds, those that are left make the same as all behind what it held before
 pub record Left (before now : Line) (ps qs left_ps left_qs : List ℕ) : Type 0 where
@@ -49,7 +52,7 @@ one_put {now = now} {more_ps = more_ps} {more_qs} {p} {q} e f left more =
     }
 
 pub few_put : {before now : Line} {ps qs left_ps left_qs : List ℕ} → Left before now ps qs left_ps left_qs → now.at ≤ before.at + 6 * length ps
-few_put {ps = ps} {qs} left = omega (arith, left.moved, commas_long ps qs)
+few_put {ps = ps} {qs} left = omega (arith, left.moved, all_commas_long ps qs)
 
 no_commas : (ps qs : List ℕ) → length ps ≡ 0 → commas ps qs ≡ []
 no_commas [] qs h = refl

@@ -102,6 +102,11 @@ module _ (s : List ℕ) (o v f : ℕ) (eo : o ≡ length (front false (map lette
   unfolding final
   f_is = ef ∙ ap (λ (l : Letters). v + length (front false l)) (ap (map letter) (from_is v s) ∙ past_v)
 
+  pub ends : (o ≤ v) × (v ≤ f) × (f ≤ length s)
+  ends =
+      let l : length (before w) + (length (run w) + (length (final w) + length (leftovers w))) ≡ length s = sym (simp length-append) ∙ ap length (halves w) ∙ length-map s letter in
+      omega (arith, o_is, v_is, f_is)
+
   pub joins_is : joins (map letter (take o s)) (map letter (take (v - o) (drop o s))) ≡ joins (before w) (run w)
   joins_is =
       ap₂ joins (front_part s o (before w) _ (halves w) o_is) (part s o v (before w) (run w) _ (halves w) o_is (v_is ∙ ap (λ (n : ℕ). n + length (run w)) o_is))
@@ -124,9 +129,9 @@ module _ (s : List ℕ) (o v f : ℕ) (eo : o ≡ length (front false (map lette
   pub plain : joins (before w) (run w) ≡ false → record { initial = o; nucleus = v; end = f } ≡ parts_of w
   plain e = by false o e o_is v_is
 
-  pub joined : joins (before w) (run w) ≡ true → record { initial = o + 1; nucleus = v; end = f } ≡ parts_of w
-  joined e = let l = go (run w) v_is e in by true (o + 1) e l.0 l.1
+  pub joined : joins (before w) (run w) ≡ true → (o + 1 ≤ v) × (record { initial = o + 1; nucleus = v; end = f } ≡ parts_of w)
+  joined e = let l = go (run w) v_is e in (l.0, by true (o + 1) e l.1 l.2)
     where
-      go : (u : Letters) → v ≡ o + length u → joins (before w) u ≡ true → (o + 1 ≡ length (initial_of true (before w) u)) × (v ≡ (o + 1) + length (nucleus_of true u))
+      go : (u : Letters) → v ≡ o + length u → joins (before w) u ≡ true → (o + 1 ≤ v) × (o + 1 ≡ length (initial_of true (before w) u)) × (v ≡ (o + 1) + length (nucleus_of true u))
       go [] eu t = let z : ◌≡◌ {A = ℕ} 0 1 = cc (joins_none (before w)) in absurd (omega arith)
-      go (x ∷ xs) eu t = (simp length-append (omega (arith, o_is)), omega arith)
+      go (x ∷ xs) eu t = (omega arith, simp length-append (omega (arith, o_is)), omega arith)

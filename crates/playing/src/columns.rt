@@ -126,7 +126,7 @@ impl Output<'_> {
         if with_keys {
             self.put_decision(decision);
             if line.len() < 2 {
-                self.put(b"-");
+                return self.put(b"-\n");
             }
         }
         self.put(line);

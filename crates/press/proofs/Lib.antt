@@ -1,2 +1,4 @@
 pub mod Shows
+pub mod Rooms
+pub mod PressesAt
 pub mod One

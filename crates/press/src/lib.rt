@@ -2,9 +2,9 @@
 #![tactic(auto)]
 
 ghost use Rattle.std.specs.Prelude.{◌≡◌};
-ghost use Rattle.press.specs.StepAndShow.{step_and_show};
+ghost use Rattle.press.specs.StepAndShow.{step_and_show, press_at as press_at_of};
 
-use rules::{Outcome, Refusal, Word};
+use rules::{Outcome, Refusal, Word, refuse};
 
 // What typing a key and showing the word comes to: what the key did with the bytes written, or a refusal; and the word then.
 #[derive(Drop)]
@@ -13,32 +13,35 @@ pub struct StepShown {
     pub word: Word,
 }
 
+// A key typed into a word that is lent as its record's bytes, and the word shown, with one range check. The key is typed in a copy of the bytes,
+// which is handed back once the text is known to fit. Refusals: 8, also for bytes that are no record, 2, 3, then 4 with the bytes needed; bytes and
+// output are then as they were.
+pub fn press_at(lent: &mut [u8], key: u8, out: &mut [u8]) -> Result<(Outcome, usize), Refusal>
+    ensures { (result ≡ (press_at_of lent.old key out.old).answer) × (lent.new ≡ (press_at_of lent.old key out.old).bytes) × (out.new ≡ (press_at_of lent.old key out.old).output) }
+{
+    if lent.len() != layout::LENGTH {
+        return refuse(8, 0);
+    }
+    let mut bytes = [0; layout::LENGTH];
+    bytes.copy_from_slice(lent);
+    let outcome = step::step_at(&mut bytes, key)?;
+    // A key that is taken leaves a record.
+    let w = layout::read(&bytes).unwrap();
+    let letters = layout::letters_of(&bytes);
+    let shown = show::text(&letters[..w.count as usize], w.tone, out)?;
+    lent.copy_from_slice(&bytes);
+    Ok((outcome, shown))
+}
+
 // A key typed and the word shown: as step, and then as show of the new word, with one range check.
 // Refusals: 8, 2, 3, then 4 with the bytes needed; word and output are then as they were.
 pub fn press(w: Word, key: u8, out: &mut [u8]) -> StepShown
     ensures { (result ≡ (step_and_show w key out.old).result) × (out.new ≡ (step_and_show w key out.old).output) }
 {
-    let stepped = step::step(w, key);
-    let answer = stepped.answer;
-    match answer {
-        Ok(outcome) => {
-            let next = stepped.word;
-            let letters = next.letters;
-            let count = next.count as usize;
-            match show::text(&letters[0..count], next.tone, out) {
-                Ok(bytes) => StepShown {
-                    answer: Ok((outcome, bytes)),
-                    word: next,
-                },
-                Err(refusal) => StepShown {
-                    answer: Err(refusal),
-                    word: w,
-                },
-            }
-        }
-        Err(refusal) => StepShown {
-            answer: Err(refusal),
-            word: w,
-        },
-    }
+    let mut bytes = [0; layout::LENGTH];
+    layout::write(w, &mut bytes);
+    let answer = press_at(&mut bytes, key, out);
+    // What was written is a record, and stays one.
+    let word = layout::read(&bytes).unwrap_or(w);
+    StepShown { answer, word }
 }

@@ -1,14 +1,17 @@
--- A drill in its bytes: how many each press takes, and what is put behind what.
+-- A drill in its bytes: how many each press takes, that its time is short, and what is put behind what.
 use mathlib.Core.Path.{◌≡◌, sym, ap, ◌∙◌}
-use mathlib.Core.List.{List, ◌++◌, map, append_assoc}
-use Prim.Native.Nat.{ℕ, ◌+◌, ◌/◌, ◌%◌, ◌≤◌, ◌<◌}
+use mathlib.Core.List.{List, [], ◌∷◌, ◌++◌, map, append_assoc}
+use Prim.Native.Nat.{ℕ, zero, suc, ◌+◌, ◌/◌, ◌%◌, ◌≤◌, ◌<◌}
 use native.Mathlib.Numerals.{add-one}
 use native.Mathlib.Omega.{arith}
+use lib.Dec.{T, ltb→lt}
+use lib.Ieee.Fits.{and_l, and_r}
 use lib.ListN.{length, take, drop, get_or, length-append, length-take}
 use lib.Seq.{take_at, drop_at, drop-drop, drop-cons}
 use Rattle.rules.specs.TheWord.{at_front}
-use Rattle.groups.specs.Numbers.{written}
-use Rattle.recording.specs.Drills.{press_in, presses_bytes}
+use Rattle.rules.specs.Refusals.{all}
+use Rattle.groups.specs.Numbers.{limit, written}
+use Rattle.recording.specs.Drills.{press_in, short_time, presses_bytes}
 
 -- a text at a place of an output, and the place behind it
 abbrev pub put_at : List ℕ → ℕ → List ℕ → List ℕ
@@ -50,3 +53,8 @@ module _ (s : List ℕ) (i : ℕ) where
       put_more key (rest s (i + 1)) mid after between next (omega (arith, p.0)) q ∙
       put_more time (key ++ rest s (i + 1)) out mid at between (omega arith) p ∙
       ap (λ (text : List ℕ). put_at text at out) (sym (turn h))
+
+pub short_at : (i : ℕ) (s : List ℕ) → i < length s → T (all short_time s) → get_or s i 0 / 256 < limit
+short_at i [] h t = absurd (omega arith)
+short_at zero (n ∷ s) h t = ltb→lt (n / 256) limit (and_l (short_time n) (all short_time s) t)
+short_at (suc i) (n ∷ s) h t = short_at i s (omega arith) (and_r (short_time n) (all short_time s) t)

@@ -19,7 +19,7 @@ not_place typed p = go (ltb p typed) refl
     go true e = ap not (sym (lt-leb typed p (ltb-true p typed e)))
     go false e = ap not (sym (le-leb typed p (ltb-false p typed e)))
 
-not_place_or_none : (typed p : ℕ) → is_place_or_none typed p ≡ not (ltb typed (keys_for p))
+pub not_place_or_none : (typed p : ℕ) → is_place_or_none typed p ≡ not (ltb typed (keys_for p))
 not_place_or_none typed p = go (eqb p no_key)
   where
     go : (b : Bool) → (b || is_place typed p) ≡ not (ltb typed (elim b [ true ↦ 0 | false ↦ p + 1 ]))

@@ -8,12 +8,21 @@ use native.Mathlib.Omega.{arith}
 use lib.Dec.{T, eqb, eqb→eq, eqb_refl, leb, leb→le, le→leb, not_T}
 use lib.Ieee.Fits.{and_i, and_l, and_r}
 use Rattle.rules.specs.Letters.{Letter, Letters, plain, circumflex, breve, horn, stroke, vni, among, carries}
-use Rattle.rules.specs.TheWord.{letter, number}
+use Rattle.rules.specs.TheWord.{letter, number, capital_number}
 use Rattle.rules.specs.KeyRoles.{is_small, is_capital, is_digit, is_key, lower_if, letter_of_key}
 use Rattle.rules.specs.Refusals.{all, all_letters, base_allowed, letter_allowed, shape_carried, no_capital_digit}
 use Rattle.rules.specs.LettersOfAMode.{Fine, AllFine, no_letters, and_these}
 use Rattle.rules.proofs.Tests.{either, or_l, or_r}
 use Rattle.rules.proofs.Edits.{Alike, end, kept, moved}
+
+-- the capital bit of a letter's number
+pub capital_bit : (n : ℕ) → n / 2048 % 2 * 2048 ≡ capital_number (letter n).capital
+capital_bit n = go (n / 2048 % 2) (omega arith)
+  where
+    go : (b : ℕ) → b ≤ 1 → b * 2048 ≡ capital_number (eqb b 1)
+    go zero h = refl
+    go (suc zero) h = refl
+    go (suc (suc b)) h = absurd (omega arith)
 
 -- bases are below 256, shapes below 8
 within : (lo hi b : ℕ) → T (leb lo b && leb b hi) → (lo ≤ b) × (b ≤ hi)

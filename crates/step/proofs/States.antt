@@ -15,6 +15,7 @@ use Rattle.rules.specs.KeyRoles as Rules
 use Rattle.rules.specs.KeyRoles.{close, edit_does, nothing, off, change}
 use Rattle.rules.specs.declared.Act.{Act}
 use Rattle.rules.specs.declared.Touched.{Touched}
+use Rattle.rules.specs.declared.Touched.TheVariants.{NoLetter, OneLetter, TwoLetters}
 use Rattle.rules.specs.declared.Outcome.{Outcome}
 use Rattle.rules.specs.declared.Outcome.TheVariants.{Acted, Undone, Appended}
 use Rattle.rules.proofs.Edits.{Alike, Good, good_none, good_off, good, length_alike}
@@ -22,11 +23,14 @@ use Rattle.rules.specs.LettersOfAMode.{AllFine}
 use Rattle.rules.proofs.Numbers.{fine_alike}
 use Rattle.rules.proofs.Records.{front_front}
 use Rattle.rules.specs.contracts.Outcome as Outcomes
+use Rattle.rules.specs.contracts.Touched as Touches
 use Rattle.step.specs.declared.Edit.{Edit}
+use Rattle.step.specs.declared.Edit.TheVariants.{Nothing, Off, Change}
 use Rattle.step.specs.declared.Rest.{Rest}
 use Rattle.step.specs.declared.Counts.{Counts}
 use Rattle.step.specs.declared.Done as Answer
-use Rattle.step.specs.LentLetters.{LettersInFront, RoomForLetter, LeavesState, DoesAsRuled, Edits, kind_of, edited_in, state_in, appended_plainly, after_edit, rest_with_tone, counted_in}
+use Rattle.step.specs.LentLetters.{LettersInFront, RoomForLetter, LeavesState, DoesAsRuled, Edits, kind_of, edited_in, state_in, appended_plainly, after_edit, rest_with_tone, counted_in, shaper_of, by_then}
+use Rattle.step.specs.contracts.Edit as Kinds
 use Rattle.step.proofs.Arrays.{within, added, front_letters, front_canonical}
 
 -- the same letters, written again
@@ -141,8 +145,32 @@ two_no : {m n k : ℕ} → (m ≡ n → ⊥) → (m ≡ k → ⊥) → (m ≡ n)
 two_no f g (inl e) = f e
 two_no f g (inr e) = g e
 
+-- an edit that neither takes a mark off nor changes the letters is none
+pub no_edit : (e : Edit) → Among (0 ∷ 2 ∷ []) (tag_of Kinds.the_type e) → Among (0 ∷ 1 ∷ []) (tag_of Kinds.the_type e) → e ≡ Nothing
+no_edit Nothing p q = refl
+no_edit (Off g) p q = absurd (two_no (λ e. omega arith) (λ e. omega arith) (opened p))
+no_edit (Change a g) p q = absurd (two_no (λ e. omega arith) (λ e. omega arith) (opened q))
+
+-- a key that touched neither one letter nor two touched none
+pub no_letter : (g : Touched) → Among (0 ∷ 2 ∷ []) (tag_of Touches.the_type g) → Among (0 ∷ 1 ∷ []) (tag_of Touches.the_type g) → g ≡ NoLetter
+no_letter NoLetter p q = refl
+no_letter (OneLetter i) p q = absurd (two_no (λ e. omega arith) (λ e. omega arith) (opened p))
+no_letter (TwoLetters i) p q = absurd (two_no (λ e. omega arith) (λ e. omega arith) (opened q))
+
 -- an outcome that is neither acted nor undone is appended
 pub neither : (n : Counts) (o : Outcome) → Among (1 ∷ 2 ∷ []) (tag_of Outcomes.the_type o) → Among (0 ∷ 2 ∷ []) (tag_of Outcomes.the_type o) → counted_in n Appended ≡ counted_in n o
 neither n (Acted a) p q = absurd (two_no (λ e. omega arith) (λ e. omega arith) (opened p))
 neither n Undone p q = absurd (two_no (λ e. omega arith) (λ e. omega arith) (opened q))
 neither n Appended p q = refl
+
+-- a key that was neither appended nor undid acted
+pub acts : (o : Outcome) (l : List ℕ) (count here : ℕ) → Among (0 ∷ 1 ∷ []) (tag_of Outcomes.the_type o) → Among (0 ∷ 2 ∷ []) (tag_of Outcomes.the_type o) → (here ≡ shaper_of o here) × (l ≡ by_then l count here o)
+acts (Acted a) l count here p q = (refl, refl)
+acts Undone l count here p q = absurd (two_no (λ e. omega arith) (λ e. omega arith) (opened q))
+acts Appended l count here p q = absurd (two_no (λ e. omega arith) (λ e. omega arith) (opened p))
+
+-- and one that did not act appended a letter
+pub adds : (o : Outcome) (l : List ℕ) (count here : ℕ) → Among (1 ∷ 2 ∷ []) (tag_of Outcomes.the_type o) → set l count here ≡ by_then l count here o
+adds (Acted a) l count here p = absurd (two_no (λ e. omega arith) (λ e. omega arith) (opened p))
+adds Undone l count here p = refl
+adds Appended l count here p = refl

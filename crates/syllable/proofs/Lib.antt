@@ -1,5 +1,6 @@
 pub mod PackedWords
 pub mod Keys
+pub mod Singles
 pub mod Rows
 pub mod Agreements
 pub mod Bases

@@ -155,6 +155,21 @@ module _ {p : ℕ} {w : Letters} (c : Packs p w) where
   begins_o =
       ap (λ (n : ℕ). leb 4096 n && eqb (n % 512) (num (word "o"))) c.is ∙ ap₂ ◌&&◌ (two_digits w c.bounded) (ap (λ (n : ℕ). eqb n (num (word "o"))) (first_digit w c.bounded) ∙ is_o w)
 
+-- the number by its digits
+pub digits_short : (w : Letters) → length w ≤ 3 → digit_at 0 w + 4096 * (digit_at 1 w + 4096 * digit_at 2 w) ≡ packed w
+digits_short [] h = refl
+digits_short (a ∷ []) h = omega arith
+digits_short (a ∷ b ∷ []) h = omega arith
+digits_short (a ∷ b ∷ c ∷ []) h = omega arith
+digits_short (a ∷ b ∷ c ∷ d ∷ ds) h = absurd (omega arith)
+
+pub digits_long : (w : Letters) → 3 < length w → digit_at 0 w + 4096 * (digit_at 1 w + 4096 * digit_at 2 w) + more ≡ packed w
+digits_long [] h = absurd (omega arith)
+digits_long (a ∷ []) h = absurd (omega arith)
+digits_long (a ∷ b ∷ []) h = absurd (omega arith)
+digits_long (a ∷ b ∷ c ∷ []) h = absurd (omega arith)
+digits_long (a ∷ b ∷ c ∷ d ∷ ds) h = omega arith
+
 pub digit_here : (s : List ℕ) (i : ℕ) → i < length s → 2 * (get_or s i 0 % 2048) + 1 ≡ digit_at i (map letter s)
 digit_here [] i h = absurd (omega arith)
 digit_here (n ∷ ns) zero h = omega arith

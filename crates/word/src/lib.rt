@@ -62,7 +62,9 @@ fn refused(number: u8, value: usize) -> TypeAll
     }
 }
 
-// A whole list of keys, from a new word. Refusals: 1, 2, 3.
+// A whole list of keys, from a new word. Refusals: 1, 2, 3. A function of its own in the programs too, as in the box: put into its caller, it would
+// have the letters of the record taken out of its bytes, and put back, at each key.
+#[inline(never)]
 pub fn type_all(mode: u8, keys: &[u8]) -> TypeAll
     ensures { result ≡ type_all_of mode keys.now }
 {

@@ -1,28 +1,36 @@
--- `felcantuzza::typed_and_shown` meets its contract: into a short output by its own function; else typed where the bytes lie and shown, or refused.
+-- `felcantuzza::typed_and_shown` meets its contract: into a short output by press's function over bytes; else typed where the bytes lie and shown, or refused.
 use Rattle.std.specs.Prelude.{Err}
 use Rattle.std.specs.Option.{IsSome}
 use Rattle.std.proofs.lemmas.Result.{err_from_is_err_and}
 use mathlib.Core.Path.{refl, sym, ap, subst, ◌∙◌}
-use Rattle.layout.specs.Places.{as_record, held, record_written}
-use Rattle.press.specs.StepAndShow.{step_and_show}
-use Rattle.press.specs.declared.StepShown.{StepShown}
-use Rattle.felcantuzza.specs.Calls as Calls
-use Rattle.felcantuzza.specs.Calls.{shown_says, only_one}
 use lib.Seq.{length-take-le}
-use Rattle.step.proofs.StepsAt.{as_it_was, was_record, now_written, now_held}
-use Rattle.felcantuzza.proofs.CallAnswers.{changed, unchanged, refused_at, typed_shown}
-use Rattle.felcantuzza.proofs.Rooms.{within, with_room}
+use Rattle.layout.specs.Places.{as_record}
+use Rattle.step.proofs.StepsAt.{as_it_was, now_written, now_held}
+use Rattle.press.specs.StepAndShow.{ShownAt}
+use Rattle.press.proofs.PressesAt.{refused_at, pressed_so}
+use Rattle.press.proofs.Rooms.{within, with_room}
+use Rattle.felcantuzza.proofs.CallAnswers.{pressed, pressed_bytes, pressed_output}
 use Rattle.felcantuzza.proofs.typed_and_shown.Goals as goal
+
+pub returns-then-out-lt-TEXT : goal.returns-then-out-lt-TEXT
+returns-then-out-lt-TEXT c =
+    let lent = c.args.lent.now in
+    let key = c.args.key in
+    let out = c.args.out.now in
+    (pressed lent key out c.press_at.ensures.0, c.press_at.ensures.1 ∙ pressed_bytes lent key out, c.press_at.ensures.2 ∙ pressed_output lent key out)
 
 pub returns-in_err-outcome : goal.returns-in_err-outcome
 returns-in_err-outcome c =
-    let args = c.args in
-    let lent = args.lent.now in
+    let lent = c.args.lent.now in
+    let key = c.args.key in
+    let out = c.args.out.now in
     let d = sym c.step_at.ensures.0 ∙ c.in_err-outcome.was in
-    let said = Calls.type_and_show lent args.key args.out.now in
-    let e = refused_at lent args.key args.out.now _ d in
-    let p = err_from_is_err_and c.from_residual.result c.from_residual.ensures.1 in
-    (ap shown_says (p.1 ∙ ap Err p.2) ∙ sym e, c.step_at.ensures.1 ∙ as_it_was lent args.key _ d ∙ unchanged said _ lent _ _ e, unchanged said _ args.out.now _ _ e)
+    let e = sym (refused_at lent key out _ d) in
+    let p = err_from_is_err_and c.from_residual.result c.from_residual.ensures.1 in (
+      pressed lent key out (p.1 ∙ ap Err p.2 ∙ ap (λ (x : ShownAt). x.answer) e),
+      c.step_at.ensures.1 ∙ as_it_was lent key _ d ∙ ap (λ (x : ShownAt). x.bytes) e ∙ pressed_bytes lent key out,
+      ap (λ (x : ShownAt). x.output) e ∙ pressed_output lent key out,
+    )
 
 pub unwrap-w-requires : goal.unwrap-w-requires
 unwrap-w-requires c =
@@ -41,15 +49,13 @@ slice_bounds-in_room-end c =
 
 pub returns : goal.returns
 returns c =
-    let args = c.args in
-    let lent = args.lent.now in
-    let out = args.out.now in
+    let lent = c.args.lent.now in
+    let key = c.args.key in
+    let out = c.args.out.now in
     let d = sym c.step_at.ensures.0 ∙ c.in_ok-outcome.was in
-    let both = with_room lent args.key out d c.step_at.ensures.1 c.read.ensures c.unwrap-w.ensures c.letters_of-letters.ensures c.if-out-lt-TEXT.false c.in_room-bytes.ensures.0 c.in_room-bytes.ensures.1 in
-    let said = Calls.type_and_show lent args.key out in
-    let all = (step_and_show (held lent) args.key out).result in
-    let e = typed_shown lent args.key out (was_record lent args.key d) all refl (sym (ap (λ (x : StepShown). x.answer) both.0)) in (
-      sym e,
-      c.step_at.ensures.1 ∙ now_written lent args.key d ∙ ap (λ (x : StepShown). record_written x.word lent) both.0 ∙ changed said _ lent _ e,
-      both.1 ∙ changed said _ out _ e,
+    let both = with_room lent key out d c.step_at.ensures.1 c.read.ensures c.unwrap-w.ensures c.letters_of-letters.ensures c.if-out-lt-TEXT.false c.in_room-bytes.ensures.0 c.in_room-bytes.ensures.1 in
+    let e = sym (pressed_so lent key out d both.0 both.1) in (
+      pressed lent key out (ap (λ (x : ShownAt). x.answer) e),
+      c.step_at.ensures.1 ∙ now_written lent key d ∙ ap (λ (x : ShownAt). x.bytes) e ∙ pressed_bytes lent key out,
+      ap (λ (x : ShownAt). x.output) e ∙ pressed_output lent key out,
     )

@@ -1,36 +1,31 @@
--- `felcantuzza::typed_and_shown_short` meets its contract: no record, refused, or typed and shown.
+-- `press::press_at` meets its contract: no record, refused, or typed in the copy and shown.
 use Rattle.std.specs.Prelude.{Err}
 use Rattle.std.specs.Option.{IsSome}
 use Rattle.std.proofs.lemmas.Result.{err_from_is_err_and}
 use mathlib.Core.Path.{refl, sym, ap, subst, ◌∙◌}
-use Rattle.layout.specs.Places.{as_record, held, record_written}
-use Rattle.press.specs.StepAndShow.{step_and_show}
-use Rattle.press.specs.declared.StepShown.{StepShown}
-use Rattle.felcantuzza.specs.Calls as Calls
-use Rattle.felcantuzza.specs.Calls.{shown_says, only_one}
-use lib.Seq.{length-take-le}
 use mathlib.Core.List.{List}
 use Prim.Native.Nat.{ℕ}
-use Rattle.rules.specs.declared.Refusal.{Refusal}
+use lib.Seq.{length-take-le}
+use Rattle.layout.specs.Places.{as_record}
 use Rattle.step.specs.InPlace.{step_at}
-use Rattle.felcantuzza.proofs.CallAnswers.{refused_both}
-use Rattle.step.proofs.StepsAt.{was_record, now_written, now_held}
-use Rattle.felcantuzza.proofs.CallAnswers.{changed, unchanged, not_long, refused_at, typed_shown}
-use Rattle.felcantuzza.proofs.Rooms.{within, in_any}
-use Rattle.felcantuzza.proofs.typed_and_shown_short.Goals as goal
+use Rattle.step.proofs.StepsAt.{now_written, now_held}
+use Rattle.press.specs.StepAndShow.{ShownAt}
+use Rattle.press.proofs.PressesAt.{not_long, refused_at, pressed_so}
+use Rattle.press.proofs.Rooms.{within, in_any}
+use Rattle.press.proofs.press_at.Goals as goal
 
 pub returns-then-lent-ne-LENGTH : goal.returns-then-lent-ne-LENGTH
 returns-then-lent-ne-LENGTH c =
     let args = c.args in
-    let e = not_long args.lent.now args.key args.out.now c.if-lent-ne-LENGTH.true in
-    (ap (λ (r : Refusal). shown_says (Err r)) c.no_record.ensures ∙ sym e, unchanged _ _ args.lent.now _ _ e, unchanged _ _ args.out.now _ _ e)
+    let e = sym (not_long args.lent.now args.key args.out.now c.if-lent-ne-LENGTH.true) in
+    (c.refuse.ensures ∙ ap (λ (x : ShownAt). x.answer) e, ap (λ (x : ShownAt). x.bytes) e, ap (λ (x : ShownAt). x.output) e)
 
 pub returns-in_err-outcome : goal.returns-in_err-outcome
 returns-in_err-outcome c =
     let args = c.args in
-    let e = refused_at args.lent.now args.key args.out.now _ (sym (c.step_at.ensures.0 ∙ ap (λ (l : List ℕ). (step_at l args.key).answer) c.copy_from_slice.ensures.after) ∙ c.in_err-outcome.was) in
+    let e = sym (refused_at args.lent.now args.key args.out.now _ (sym (c.step_at.ensures.0 ∙ ap (λ (l : List ℕ). (step_at l args.key).answer) c.copy_from_slice.ensures.after) ∙ c.in_err-outcome.was)) in
     let p = err_from_is_err_and c.from_residual.result c.from_residual.ensures.1 in
-    (ap shown_says (p.1 ∙ ap Err p.2) ∙ sym e, unchanged _ _ args.lent.now _ _ e, unchanged _ _ args.out.now _ _ e)
+    (p.1 ∙ ap Err p.2 ∙ ap (λ (x : ShownAt). x.answer) e, ap (λ (x : ShownAt). x.bytes) e, ap (λ (x : ShownAt). x.output) e)
 
 pub unwrap-w-requires : goal.unwrap-w-requires
 unwrap-w-requires c =
@@ -62,15 +57,10 @@ returns-in_err-shown c =
     let lent = args.lent.now in
     let d = sym (c.step_at.ensures.0 ∙ ap (λ (l : List ℕ). (step_at l args.key).answer) c.copy_from_slice.ensures.after) ∙ c.in_ok-outcome.was in
     let now = c.step_at.ensures.1 ∙ ap (λ (l : List ℕ). (step_at l args.key).bytes) c.copy_from_slice.ensures.after in
-    let out = args.out.now in
-    let both = in_any lent args.key out d now c.read.ensures c.unwrap-w.ensures c.letters_of-letters.ensures (sym c.in_err-shown.was ∙ c.text.ensures.0) c.text.ensures.1 in
-    let said = Calls.type_and_show lent args.key out in
-    let e = typed_shown lent args.key out (was_record lent args.key d) (step_and_show (held lent) args.key out).result refl (sym (ap (λ (x : StepShown). x.answer) both.0)) in
-    let p = err_from_is_err_and c.from_residual-in_err-shown.result c.from_residual-in_err-shown.ensures.1 in (
-      ap shown_says (p.1 ∙ ap Err p.2) ∙ sym e,
-      unchanged said _ lent _ _ e,
-      both.1 ∙ refused_both (held lent) args.key out _ (sym (ap (λ (x : StepShown). x.answer) both.0)) ∙ unchanged said _ out _ _ e,
-    )
+    let both = in_any lent args.key args.out.now d now c.read.ensures c.unwrap-w.ensures c.letters_of-letters.ensures (sym c.in_err-shown.was ∙ c.text.ensures.0) c.text.ensures.1 in
+    let e = sym (pressed_so lent args.key args.out.now d both.0 both.1) in
+    let p = err_from_is_err_and c.from_residual-in_err-shown.result c.from_residual-in_err-shown.ensures.1 in
+    (p.1 ∙ ap Err p.2 ∙ ap (λ (x : ShownAt). x.answer) e, ap (λ (x : ShownAt). x.bytes) e, ap (λ (x : ShownAt). x.output) e)
 
 pub returns : goal.returns
 returns c =
@@ -78,11 +68,6 @@ returns c =
     let lent = args.lent.now in
     let d = sym (c.step_at.ensures.0 ∙ ap (λ (l : List ℕ). (step_at l args.key).answer) c.copy_from_slice.ensures.after) ∙ c.in_ok-outcome.was in
     let now = c.step_at.ensures.1 ∙ ap (λ (l : List ℕ). (step_at l args.key).bytes) c.copy_from_slice.ensures.after in
-    let out = args.out.now in
-    let both = in_any lent args.key out d now c.read.ensures c.unwrap-w.ensures c.letters_of-letters.ensures (sym c.in_ok-shown.was ∙ c.text.ensures.0) c.text.ensures.1 in
-    let said = Calls.type_and_show lent args.key out in
-    let e = typed_shown lent args.key out (was_record lent args.key d) (step_and_show (held lent) args.key out).result refl (sym (ap (λ (x : StepShown). x.answer) both.0)) in (
-      sym e,
-      c.copy_from_slice-2.ensures.after ∙ now ∙ now_written lent args.key d ∙ ap (λ (x : StepShown). record_written x.word lent) both.0 ∙ changed said _ lent _ e,
-      both.1 ∙ changed said _ out _ e,
-    )
+    let both = in_any lent args.key args.out.now d now c.read.ensures c.unwrap-w.ensures c.letters_of-letters.ensures (sym c.in_ok-shown.was ∙ c.text.ensures.0) c.text.ensures.1 in
+    let e = sym (pressed_so lent args.key args.out.now d both.0 both.1) in
+    (ap (λ (x : ShownAt). x.answer) e, c.copy_from_slice-2.ensures.after ∙ now ∙ now_written lent args.key d ∙ ap (λ (x : ShownAt). x.bytes) e, ap (λ (x : ShownAt). x.output) e)

@@ -1,4 +1,4 @@
--- A key typed where the lent bytes lie, and the text of the new word made in an output with room for any: what typing and showing comes to.
+-- A key typed into a record's bytes, and the text of the new word made, in an output with room for any or in another: what typing and showing comes to.
 use Rattle.std.specs.Prelude.{Ok, Option, Some, Result}
 use mathlib.Core.Path.{◌≡◌, refl, sym, ap, ap₂, ◌∙◌}
 use mathlib.Core.List.{List}

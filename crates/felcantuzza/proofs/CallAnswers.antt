@@ -21,9 +21,10 @@ use Rattle.rules.specs.declared.Decision.TheVariants.{Keep as Kept, Restore as R
 use Rattle.rules.proofs.Refused.{refused_show}
 use Rattle.layout.specs.Places.{as_record, record_written, is_record, held, or_new}
 use Rattle.step.specs.InPlace.{bytes_after, step_if, step_at}
-use Rattle.press.specs.StepAndShow.{show_or, pressed_or, step_and_show, press_if, press_at}
+use Rattle.press.specs.StepAndShow.{show_or, pressed_or, step_and_show, ShownAt, press_if, press_at}
 use Rattle.press.specs.StepAndShow.{bytes_after as shown_after}
 use Rattle.press.specs.declared.StepShown.{StepShown}
+use Rattle.press.proofs.PressesAt as PressesAt
 use Rattle.commit.specs.Rulings.{ruling_or, ruling_of}
 use Rattle.commit.specs.Rulings.{decided as ruled}
 use Rattle.commit.specs.declared.Ruling.{Ruling}
@@ -168,6 +169,17 @@ module _ (lent : List ℕ) (key : ℕ) (out : List ℕ) where
       go : (b : Bool) → (press_if b (held lent) key lent out).output ≡ unless_refused (of_record b (shown_says all.answer)) made out
       go true = by_answer all.answer refl
       go false = refl
+
+  -- by what became of the key: there are not as many bytes as a record's; it is refused; it is typed into a record
+  pub not_long : (length lent ≡ 169 → ⊥) → Calls.type_and_show lent key out ≡ refusing no_record
+  not_long h = sym (pressed (sym (ap (λ (x : ShownAt). x.answer) (PressesAt.not_long lent key out h))))
+
+  pub refused_at : (x : Refusal) → (step_at lent key).answer ≡ Err x → Calls.type_and_show lent key out ≡ refusing x
+  refused_at x e = sym (pressed (sym (ap (λ (y : ShownAt). y.answer) (PressesAt.refused_at lent key out x e))))
+
+  pub typed_shown : is_record lent ≡ true → (s : StepShown) → s ≡ all → {y : Result (Outcome × ℕ) Refusal} → s.answer ≡ y → Calls.type_and_show lent key out ≡ shown_says y
+  unfolding Calls.type_and_show
+  typed_shown t s p q = ap (λ (b : Bool). of_record b (shown_says all.answer)) t ∙ ap shown_says (sym (ap (λ (x : StepShown). x.answer) p) ∙ q)
 
 -- what commit's ruling says
 abbrev pub ruling_says : Result Ruling Refusal → Says
